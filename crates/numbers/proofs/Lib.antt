@@ -1,0 +1,3 @@
+-- What the proofs of more than one module cite.
+pub mod Tests
+pub mod Words

@@ -1,0 +1,2 @@
+-- The laws of dep.
+pub mod Laws

@@ -1,0 +1,2 @@
+-- The laws of except.
+pub mod Laws

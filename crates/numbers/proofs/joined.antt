@@ -1,0 +1,2 @@
+-- The law of a joined number.
+pub mod Laws

@@ -1,0 +1,2 @@
+-- The laws of or.
+pub mod Laws

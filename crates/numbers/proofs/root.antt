@@ -1,0 +1,3 @@
+-- The laws of the root, and the arithmetic of Newton's step.
+pub mod Laws
+mod Newton

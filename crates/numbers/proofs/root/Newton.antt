@@ -1,0 +1,60 @@
+-- Newton's step for a square root, r ↦ (r + n / r) / 2.
+--   step-above    from any guess it gives the root or more
+--   step-below    from a guess whose square is above n it gives less
+--   stepped       so a guess that is the root or more stays so
+--   met           and once its square is within n it is the root
+--   small-square  a word's root squared fits a word
+-- Assumes nothing.
+use mathlib.Core.Path.{_≡_, refl}
+use mathlib.Core.Bool.{Bool, true, false}
+use Prim.Native.Nat.{ℕ, zero, suc, _+_, _*_, _-_, _/_, _^_, _≤_, _<_}
+use native.Mathlib.Nat.{lt-div-mul-add, div-lt-iff-lt-mul, mul-le-mul}
+use native.Mathlib.Omega.{arith}
+use lib.Dec.{leb}
+use borrow.Author.Tests.{leb-true, leb-false}
+use Rattle.numbers.specs.Root.{Root, Above, root}
+use Rattle.numbers.proofs.root.Laws.{root-is, root-one}
+
+-- four times a product is at most the square of the sum
+four-apart : (a b d : ℕ) → b ≡ a + d → 4 * (a * b) ≤ (a + b) * (a + b)
+four-apart a b d e = rw e (omega arith)
+
+four : (a b : ℕ) → 4 * (a * b) ≤ (a + b) * (a + b)
+four a b = by (leb a b) refl
+  where
+    by : (q : Bool) → leb a b ≡ q → 4 * (a * b) ≤ (a + b) * (a + b)
+    by true e = four-apart a b (b - a) (omega (arith, leb-true a b e))
+    by false e = omega (arith, four-apart b a (a - b) (omega (arith, leb-false a b e)))
+
+module _ (n r : ℕ) where
+  pub step-above : 0 < r → n < ((r + n / r) / 2 + 1) * ((r + n / r) / 2 + 1)
+  step-above p =
+      let m = (r + n / r) / 2 + 1 in
+      let sum : (n / r + 1) + r ≤ 2 * m = omega arith in
+      omega (arith, lt-div-mul-add {a = n} {b = r} p, four (n / r + 1) r, mul-le-mul sum sum)
+
+  pub above-zero : n < r * r → 0 < r
+  above-zero h = by r refl
+    where
+      by : (k : ℕ) → r ≡ k → 0 < r
+      by zero e = absurd (omega (arith, (rw e at h)))
+      by (suc k) e = omega arith
+
+  pub quotient-below : n < r * r → n / r < r
+  quotient-below h = div-lt-iff-lt-mul {k = r} {x = n} {y = r} (above-zero h) .1 h
+
+  pub step-below : n < r * r → (r + n / r) / 2 < r
+  step-below h = omega (arith, quotient-below h)
+
+  pub small-square : Above n r → r * r < 2 ^ 64
+  small-square a = omega (arith, mul-le-mul {n₁ = r} {m₁ = r} {n₂ = 2 ^ 32 - 1} {m₂ = 2 ^ 32 - 1} (omega arith) (omega arith))
+
+  pub stepped : Above n r → n < r * r → Above n ((r + n / r) / 2)
+  stepped a h = record { above = step-above (above-zero h); word = omega (arith, step-below h) }
+
+  pub met : Above n r → r * r ≤ n → r ≡ root n
+  met a h = root-one (record { within = h; most = a .above }) (root-is n)
+
+-- a word's root is at most 2^32 - 1
+pub most-above : (n : ℕ) → n < 2 ^ 64 → Above n (2 ^ 32 - 1)
+most-above n h = record { above = omega arith; word = omega arith }

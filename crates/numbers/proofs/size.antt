@@ -1,0 +1,2 @@
+-- The laws of size.
+pub mod Laws
