@@ -42,14 +42,14 @@ pub join-square-spec : {M : Type 1} → statement M
 join-square-spec =
     tie.close
     (tie.spec
-    (λ c. is-big _ (large-first _ _ (c .if1 .taken)))
-    (λ c. is-big _ (large-second _ _ (c .if2 .taken)))
-    (λ c. omega (arith, small _ (c .before .if2 .left)))
-    (λ c. omega (arith, small _ (c .before .if2 .left)))
+    (λ c. is-big _ (large-first _ _ (omega arith)))
+    (λ c. is-big _ (large-second _ _ (omega arith)))
+    (λ c. omega (arith, small (c .before .before .before .args .y) (omega arith)))
+    (λ c. omega (arith, small (c .before .before .before .args .y) (omega arith)))
     (λ c κs. search needs)
-    (λ c. omega (arith, small _ (c .before .before .if1 .left)))
-    (λ c. omega (arith, small _ (c .before .before .if1 .left)))
-    (λ c. omega (arith, small _ (c .before .before .if1 .left)))
+    (λ c. omega (arith, small (c .before .before .before .args .x) (omega arith)))
+    (λ c. omega (arith, small (c .before .before .before .args .x) (omega arith)))
+    (λ c. omega (arith, small (c .before .before .before .args .x) (omega arith)))
     (λ c κs. search needs)
     (λ c. c .cap .ensures ∙ ap capped (less _ _ (c .before .if3 .taken)))
     (λ c. c .cap2 .ensures ∙ ap capped (not-less _ _ (c .before .if3 .left))))

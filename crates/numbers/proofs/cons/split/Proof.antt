@@ -30,7 +30,7 @@ split-spec =
     (tie.spec
     (λ c. search needs)
     (λ c. search needs)
-    (λ c. first _ _ _ (c .if2 .taken) (c .before .if1 .taken))
+    (λ c. first _ _ _ (omega arith) (omega arith))
     (λ c κs. search needs)
     (λ c. square _ _ _ _ (c .before .if2 .left) (omega arith) (c .split-square .ensures))
     (λ c. search needs)

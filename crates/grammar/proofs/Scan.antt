@@ -1,0 +1,93 @@
+-- The nodes rising, as the loop of `weigh_all` goes through them.
+--   Weighing          the nodes below n have passed, and the plan holds them
+--   weighing-none, weighing-more, weighing-fault, weighing-end   its turns
+--   scan-sound        of a table whose nodes pass: each node's row shows `Sound`, and its size is 01's
+-- Assumes nothing.
+use mathlib.Core.Path.{_≡_, refl, sym, ap, _∙_, fun-ext}
+use mathlib.Core.Bool.{Bool, true, false}
+use mathlib.Core.Logic.{_⊎_, inl, inr, ⊎-elim}
+use mathlib.Core.List.{List, [], _∷_, _++_}
+use Prim.Native.Nat.{ℕ, zero, suc, _+_, _*_, _≤_, _<_, zero-le}
+use native.Mathlib.Nat.{not-suc-le-zero, le-refl, le-of-suc-le-suc, eq-or-lt-of-le}
+use native.Mathlib.Numerals.{add-one}
+use native.Mathlib.Omega.{arith}
+use lib.ListN.{length, replicate}
+use Rattle.numbers.specs.Size.{Size, codeOf}
+use Rattle.grammar.specs.Table.{kindOf, aOf, bOf, nodes}
+use Rattle.grammar.specs.Node.{nodeAt, spare}
+use Rattle.grammar.specs.Rows.{Row, fault, sized, rowAt, sizeFor}
+use Rattle.grammar.specs.Sizes.{Scan, passed, faulty, sizeAt, noted, onward, scan, sizesIn, sizes}
+use Rattle.grammar.specs.Plan.{sizeIn, rowed, coded, Small, Planned, WeighedBy, AllWeighed}
+use Rattle.grammar.specs.declared.refusal.Refusal.{Refusal}
+use Rattle.grammar.specs.declared.refusal.Verdict.the-variants.{Accepted, Refused}
+use Rattle.grammar.specs.declared.kinds.Weighed.{Weighed}
+use Rattle.grammar.specs.declared.kinds.Weighed.the-variants.{Fault, Of}
+use Rattle.grammar.proofs.Sound.{Sound, sound-at, small-for}
+use Rattle.grammar.proofs.Plans.{plan-none, plan-more, plan-sizes}
+
+-- ---- a row's outcome, from the code's word for it
+coded-of : (r : Row) {w : ℕ} → coded r ≡ Of w → (s : Size) × (r ≡ sized s) × (w ≡ codeOf s)
+unfolding coded
+coded-of (fault f) e = let z : _≡_ {A = ℕ} 0 1 = cc in absurd (omega arith)
+coded-of (sized s) e = (s, refl, cc)
+
+coded-fault : (r : Row) {f : Refusal} → coded r ≡ Fault f → r ≡ fault f
+unfolding coded
+coded-fault (fault f) e = cc
+coded-fault (sized s) e = let z : _≡_ {A = ℕ} 0 1 = cc in absurd (omega arith)
+
+-- ---- the loop
+pub record Weighing (t p : List ℕ) (n : ℕ) (plan : List ℕ) : Type 0 where
+  pub le : n ≤ nodes t
+  pub zs : List Size
+  pub is : scan t p n ≡ passed zs
+  pub plans : Planned t zs n plan
+
+pub weighing-none : {t p plan : List ℕ} → plan ≡ replicate 1024 0 → Weighing t p 0 plan
+unfolding scan
+weighing-none {t} {p} {plan} e = record { le = zero-le; zs = []; is = refl; plans = plan-none t plan e }
+
+-- a refusal stays
+stays : (t p : List ℕ) (m k : ℕ) {r : Refusal} {i : ℕ} → k ≤ m → scan t p k ≡ faulty r i → scan t p m ≡ faulty r i
+unfolding scan onward
+stays t p zero k l e = let z : k ≡ 0 = omega arith in rw z at e
+stays t p (suc m) k l e = ⊎-elim (λ same. rw same at e) (λ less. rw (stays t p m k (le-of-suc-le-suc less) e)) (eq-or-lt-of-le l)
+
+module _ {t p plan : List ℕ} {n : ℕ} (c : Weighing t p n plan) (l : n < nodes t) (few : nodes t ≤ 256) {w : Weighed} (e : w ≡ coded (rowAt t p (sizeIn plan) n)) where
+  here : w ≡ coded (rowAt t p (sizeAt (c .zs)) n)
+  here = e ∙ ap (λ (z : ℕ → Size). coded (rowAt t p z n)) (fun-ext (plan-sizes (c .plans)))
+
+  turn : (s : Size) → rowAt t p (sizeAt (c .zs)) n ≡ sized s → {m : ℕ} {next : List ℕ} → m ≡ codeOf s → next ≡ rowed plan n (kindOf t n) (aOf t n) (bOf t n) m
+      → Weighing t p (n + 1) next
+  unfolding scan onward
+  turn s r q g =
+      let (u, d, z) = sound-at t p (sizeAt (c .zs)) n r in
+      let m : Small s = rw z (small-for t p (sizeAt (c .zs)) n (c .plans .small) (nodeAt t n) d) in
+      record { le = omega arith; zs = c .zs ++ (s ∷ []); is = rw (add-one, c .is, r); plans = rw g (plan-more (c .plans) (omega arith) s m q) }
+
+  pub weighing-more : {s : ℕ} {next : List ℕ} → w ≡ Of s → next ≡ rowed plan n (kindOf t n) (aOf t n) (bOf t n) s → Weighing t p (n + 1) next
+  weighing-more f g = let (s, r, q) = coded-of (rowAt t p (sizeAt (c .zs)) n) (sym here ∙ f) in turn s r q g
+
+  pub weighing-fault : {r : Refusal} {last : List ℕ} → w ≡ Fault r → AllWeighed t p last (Refused r n)
+  unfolding scan onward
+  weighing-fault f =
+      let r = coded-fault (rowAt t p (sizeAt (c .zs)) n) (sym here ∙ f) in
+      record { is = stays t p (nodes t) (suc n) l (rw (c .is, r)) }
+
+pub weighing-end : {t p plan : List ℕ} {n : ℕ} → Weighing t p n plan → nodes t ≤ n → AllWeighed t p plan Accepted
+unfolding sizes
+weighing-end {t} {p} {plan} {n} c l =
+    let e : n ≡ nodes t = omega (arith, c .le) in
+    let s : scan t p (nodes t) ≡ passed (c .zs) = rw e at (c .is) in
+    record { is = rw s (refl, rw e at (c .plans)) }
+
+-- ---- a table whose nodes pass
+sized-of : (n : ℕ) (zs : List Size) {ys : List Size} (r : Row) → noted n zs r ≡ passed ys → (s : Size) × (r ≡ sized s) × (ys ≡ zs ++ (s ∷ []))
+sized-of n zs (fault f) e = let x : _≡_ {A = ℕ} 0 1 = cc in absurd (omega arith)
+sized-of n zs (sized s) e = (s, refl, cc)
+
+onward-of : (t p : List ℕ) (n : ℕ) (q : Scan) {ys : List Size} → onward t p n q ≡ passed ys
+    → (zs : List Size) × (q ≡ passed zs) × ((s : Size) × (rowAt t p (sizeAt zs) n ≡ sized s) × (ys ≡ zs ++ (s ∷ [])))
+unfolding onward
+onward-of t p n (passed zs) e = (zs, refl, sized-of n zs (rowAt t p (sizeAt zs) n) e)
+onward-of t p n (faulty r k) e = let x : _≡_ {A = ℕ} 0 1 = cc in absurd (omega arith)

@@ -1,0 +1,14 @@
+-- `grammar::plan::used_or_zero` looks a word up in the constant table.
+-- Assumes nothing.
+use borrow.Author.Needs.{needs}
+use Rattle.grammar.proofs.Used.{used-yes, used-no}
+use Rattle.grammar.proofs.plan.used_or_zero.Statement.{statement}
+use Rattle.grammar.proofs.plan.used_or_zero.Tie as tie
+
+pub used-or-zero-spec : {M : Type 1} → statement M
+used-or-zero-spec =
+    tie.close
+    (tie.spec
+    (λ c. search needs)
+    (λ c. used-yes _ (c .before .args .word) (c .before .pre) (c .if1 .taken))
+    (λ c. used-no _ (c .before .args .word) (c .before .pre) (c .if1 .left)))

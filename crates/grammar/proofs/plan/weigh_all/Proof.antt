@@ -1,0 +1,42 @@
+-- `grammar::plan::weigh_all` goes through the nodes, rising.
+-- Assumes nothing.
+use borrow.Author.Needs.{needs}
+use Prim.Native.Nat.{ℕ, _+_, _*_, _-_, _^_, _≤_, _<_}
+use native.Mathlib.Omega.{arith}
+use Rattle.grammar.proofs.Scan.{Weighing, weighing-none, weighing-more, weighing-fault, weighing-end}
+use Rattle.grammar.proofs.plan.weigh_all.Statement.{statement}
+use Rattle.grammar.proofs.plan.weigh_all.Tie as tie
+
+abbrev Inv-loop : tie.InvT-loop
+Inv-loop table pool plan₀ count n₀ plan n = Weighing table pool n plan
+
+abbrev μ-loop : tie.MeasureT-loop
+μ-loop table pool plan₀ count n₀ plan n = count - n
+
+pub weigh-all-spec : {M : Type 1} → statement M
+weigh-all-spec =
+    tie.close
+    (tie.spec
+    Inv-loop
+    μ-loop
+    (λ c. search weighing-none)
+    (λ c κs. omega arith)
+    (λ c. search needs)
+    (λ c. search weighing-fault)
+    (λ c. search needs)
+    (λ c. omega arith)
+    (λ c. omega arith)
+    (λ c. omega arith)
+    (λ c. omega arith)
+    (λ c. omega arith)
+    (λ c. omega arith)
+    (λ c. omega arith)
+    (λ c. omega arith)
+    (λ c. omega arith)
+    (λ c. omega arith)
+    (λ c. omega arith)
+    (λ c κs. omega arith)
+    (λ c. omega arith)
+    (λ c. omega arith)
+    (λ c. search weighing-more)
+    (λ c. search weighing-end))

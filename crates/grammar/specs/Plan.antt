@@ -1,0 +1,59 @@
+-- The plan that the walks use: four words a node, its kind, a, b and its size's word.
+--   sizeIn     the size of a node, by the plan
+--   rowed      a plan with node n's four words put in
+--   coded, weighedOf   a row's outcome, and a measured size, in the code's words
+--   Planned    the plan holds the nodes below n, with the sizes zs
+--   AllWeighed the first fault and its node, or the plan of the whole table
+-- Assumes nothing.
+use mathlib.Core.Path.{_≡_}
+use mathlib.Core.List.{List}
+use Prim.Native.Nat.{ℕ, _+_, _*_, _^_, _≤_, _<_}
+use lib.ListN.{length, getD, set}
+use Rattle.numbers.specs.Size.{Size, finite, endless, codeOf, sizeOf}
+use Rattle.grammar.specs.Table.{kindOf, aOf, bOf, nodes}
+use Rattle.grammar.specs.Rows.{Row, fault, sized}
+use Rattle.grammar.specs.Sizes.{sizeAt, scan, passed, faulty, sizes}
+use Rattle.numbers.specs.declared.size.Measured.{Measured}
+use Rattle.numbers.specs.declared.size.Measured.the-variants.{Of as Measures, Past}
+use Rattle.grammar.specs.declared.refusal.Refusal.the-variants.{TooLarge}
+use Rattle.grammar.specs.declared.refusal.Verdict.{Verdict}
+use Rattle.grammar.specs.declared.refusal.Verdict.the-variants.{Accepted, Refused}
+use Rattle.grammar.specs.declared.kinds.Weighed.{Weighed}
+use Rattle.grammar.specs.declared.kinds.Weighed.the-variants.{Fault, Of}
+
+abbrev pub sizeIn : List ℕ → ℕ → Size
+sizeIn plan n = sizeOf (getD plan (4 * n + 3) 0)
+
+abbrev pub rowed : List ℕ → ℕ → ℕ → ℕ → ℕ → ℕ → List ℕ
+rowed plan n kind a b w = set (set (set (set plan (4 * n) kind) (4 * n + 1) a) (4 * n + 2) b) (4 * n + 3) w
+
+unfoldable pub coded : Row → Weighed
+coded (fault r) = Fault r
+coded (sized s) = Of (codeOf s)
+
+-- a measured size in the same words
+unfoldable pub weighedOf : Measured → Weighed
+weighedOf (Measures s) = Of s
+weighedOf Past = Fault TooLarge
+
+-- a size up to 2^62, or endless
+abbrev pub Small : Size → Type 0
+Small (finite s) = s ≤ 2 ^ 62
+Small endless = Unit {0}
+
+pub record Planned (t : List ℕ) (zs : List Size) (n : ℕ) (plan : List ℕ) : Type 0 where
+  pub long : length plan ≡ 1024
+  pub many : length zs ≡ n
+  pub kind : (k : ℕ) → k < n → getD plan (4 * k) 0 ≡ kindOf t k
+  pub a : (k : ℕ) → k < n → getD plan (4 * k + 1) 0 ≡ aOf t k
+  pub b : (k : ℕ) → k < n → getD plan (4 * k + 2) 0 ≡ bOf t k
+  pub size : (k : ℕ) → getD plan (4 * k + 3) 0 ≡ codeOf (sizeAt zs k)
+  pub small : (k : ℕ) → Small (sizeAt zs k)
+
+-- ---- what the nodes of a table show, rising
+abbrev pub WeighedBy : List ℕ → List ℕ → List ℕ → Verdict → Type 0
+WeighedBy t p plan Accepted = (scan t p (nodes t) ≡ passed (sizes t p)) × Planned t (sizes t p) (nodes t) plan
+WeighedBy t p plan (Refused r k) = scan t p (nodes t) ≡ faulty r k
+
+pub record AllWeighed (t p plan : List ℕ) (v : Verdict) : Type 0 where
+  pub is : WeighedBy t p plan v

@@ -1,0 +1,147 @@
+// The nodes of a table, one after the other, and the plan that they are put into.
+ghost use mathlib.Core.Path.{_≡_};
+ghost use mathlib.Core.Bool.{_||_};
+ghost use Prim.Native.Nat.{_*_, _<_, _≤_};
+ghost use lib.Dec.{eqb};
+ghost use lib.ListN.{length, getD, replicate};
+ghost use Rattle.grammar.specs.Table.{nodes};
+ghost use Rattle.grammar.specs.Node.{nodeOf, spare};
+ghost use Rattle.grammar.specs.Used.{usedAt};
+ghost use Rattle.grammar.specs.Rows.{rowOf, rowAt};
+ghost use Rattle.grammar.specs.Plan.{sizeIn, coded, rowed, AllWeighed};
+use super::kinds;
+use super::kinds::AGAIN;
+use super::kinds::BELOW;
+use super::kinds::CONS;
+use super::kinds::DEP;
+use super::kinds::EXCEPT;
+use super::kinds::FIX;
+use super::kinds::NATS;
+use super::kinds::OR;
+use super::kinds::POOL;
+use super::kinds::SHIFT;
+use super::kinds::Weighed;
+use super::refusal::Refusal;
+use super::refusal::Verdict;
+
+// "One constant table says which of a and b each kind uses": yes or no for a and for b, a row a kind.
+const USED: [bool; 20] = [
+    true,
+    false, // below: count
+    false,
+    false, // nats: none
+    true,
+    true, // pool: place, count
+    true,
+    true, // shift: node, k
+    true,
+    true, // or: nodes
+    true,
+    true, // cons: nodes
+    true,
+    true, // dep: node, place
+    true,
+    true, // except: node, number
+    true,
+    false, // fix: body
+    true,
+    false, // again: fix
+];
+
+// "a word not used is zero": of one word, by its entry in the table.
+fn used_or_zero(entry: usize, word: u64) -> bool
+    requires { ⌜ entry < 20 ⌝ }
+    ensures { λ r. ⌜ r ≡ (usedAt entry || eqb word 0) ⌝ }
+{
+    if USED[entry] {
+        return true;
+    }
+    word == 0
+}
+
+fn spare_words(kind: usize, a: u64, b: u64) -> bool
+    requires { ⌜ kind < 10 ⌝ }
+    ensures { λ r. ⌜ r ≡ spare (nodeOf kind a b) a b ⌝ }
+{
+    if used_or_zero(2 * kind, a) {
+        return used_or_zero(2 * kind + 1, b);
+    }
+    false
+}
+
+// The row of a node whose kind is known and whose spare words are zero.
+fn row(
+    table: &[u64],
+    pool: &[u64],
+    plan: &[u64; 1024],
+    n: usize,
+    kind: u64,
+    a: u64,
+    b: u64,
+) -> Weighed
+    requires { ⌜ (length (now table) ≡ 3 * nodes (now table)) × (n < nodes (now table)) × (n < 256) ⌝ }
+    ensures { λ r. ⌜ r ≡ coded (rowOf (now (table .entry)) (now (pool .entry)) (sizeIn (now (plan .entry))) n (nodeOf kind a b)) ⌝ }
+{
+    match kind {
+        BELOW => kinds::below(a),
+        NATS => kinds::nats(),
+        POOL => kinds::pool_words(pool, a as usize, b as usize),
+        SHIFT => kinds::shift(table, plan, n, a as usize, b),
+        OR => kinds::or(plan, n, a as usize, b as usize),
+        CONS => kinds::cons(plan, n, a as usize, b as usize),
+        DEP => kinds::dep(pool, plan, n, a as usize, b as usize),
+        EXCEPT => kinds::except(plan, n, a as usize, b),
+        FIX => kinds::fix(plan, n, a as usize),
+        AGAIN => kinds::again(table, n, a as usize),
+        _ => Weighed::Fault(Refusal::Kind),
+    }
+}
+
+// "kind known (2) before the row"
+fn weigh(table: &[u64], pool: &[u64], plan: &[u64; 1024], n: usize) -> Weighed
+    requires { ⌜ (length (now table) ≡ 3 * nodes (now table)) × (n < nodes (now table)) × (n < 256) ⌝ }
+    ensures { λ r. ⌜ r ≡ coded (rowAt (now (table .entry)) (now (pool .entry)) (sizeIn (now (plan .entry))) n) ⌝ }
+{
+    let kind = table[3 * n];
+    let a = table[3 * n + 1];
+    let b = table[3 * n + 2];
+    if AGAIN < kind {
+        return Weighed::Fault(Refusal::Kind);
+    }
+    if spare_words(kind as usize, a, b) {
+        return row(table, pool, plan, n, kind, a, b);
+    }
+    Weighed::Fault(Refusal::SpareWord)
+}
+
+// A node's four words.
+fn put_row(plan: &mut [u64; 1024], n: usize, kind: u64, a: u64, b: u64, size: u64)
+    requires { ⌜ n < 256 ⌝ }
+    ensures { λ _. ⌜ now (plan .exit) ≡ rowed (now (plan .entry)) n kind a b size ⌝ }
+{
+    plan[4 * n] = kind;
+    plan[4 * n + 1] = a;
+    plan[4 * n + 2] = b;
+    plan[4 * n + 3] = size;
+}
+
+// "then nodes rising": the first fault and its node, or the plan of them all.
+pub fn weigh_all(table: &[u64], pool: &[u64], plan: &mut [u64; 1024]) -> Verdict
+    requires { ⌜ (length (now table) ≡ 3 * nodes (now table)) × (nodes (now table) ≤ 256) ⌝ }
+    requires { ⌜ now plan ≡ replicate 1024 0 ⌝ }
+    ensures { λ r. ⌜ AllWeighed (now (table .entry)) (now (pool .entry)) (now (plan .exit)) r ⌝ }
+{
+    let count = table.len() / 3;
+    for n in 0..count {
+        let w = weigh(table, pool, plan, n);
+        match w {
+            Weighed::Fault(r) => {
+                return Verdict::Refused(r, n as u64);
+            }
+            Weighed::Of(s) => {
+                put_row(plan, n, table[3 * n], table[3 * n + 1], table[3 * n + 2], s);
+            }
+        }
+    }
+    Verdict::Accepted
+}

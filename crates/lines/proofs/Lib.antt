@@ -1,0 +1,6 @@
+-- What the proofs of more than one module cite.
+pub mod Tests
+pub mod Fronts
+pub mod Decimals
+pub mod Laws
+mod Worked

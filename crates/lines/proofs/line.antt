@@ -1,0 +1,7 @@
+-- The laws of lines, and how a line is read.
+pub mod Laws
+mod Words
+mod Rest
+mod Counting
+mod Storing
+mod Passes

@@ -1,0 +1,3 @@
+-- How texts are put, byte by byte.
+mod Spelling
+mod Putting
