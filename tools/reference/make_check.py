@@ -171,6 +171,9 @@ def dep_edges(vectors):
     for count in (MOST_FIRSTS_OF_DEP - 1, MOST_FIRSTS_OF_DEP, MOST_FIRSTS_OF_DEP + 1):
         for pool in ((0,) * 255, (0,) * 256, (0,) * 257, (1,) * 256, (2,) + (1,) * 255, (1,) * 255 + (0,)):
             vectors.checked((BELOW, count, 0, NATS, 0, 0, DEP, 0, 0), pool)
+    # finite seconds that pass 2^62 together beside an endless one: 7 comes before 8
+    for seconds in ((1, 1, 2), (2, 1, 1), (1, 2, 1), (1, 1, 1), (1, 1, 3), (2, 2, 2)):
+        vectors.checked((BELOW, 3, 0, BELOW, LARGEST_SIZE, 0, NATS, 0, 0, DEP, 0, 0), seconds)
     # the size of a first part that isn't a below
     vectors.checked((BELOW, 2, 0, BELOW, 3, 0, CONS, 0, 1, DEP, 2, 0), (0, 0, 1, 1, 2, 2))
     vectors.checked((BELOW, 2, 0, BELOW, 3, 0, OR, 0, 1, DEP, 2, 0), (0, 0, 1, 1, 2))

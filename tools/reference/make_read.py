@@ -28,7 +28,7 @@ from reference import (
     survey,
     write,
 )
-from shapes import PRINTED, RULES, chain, chains, last_node, of_length, recursions
+from shapes import PRINTED, RULES, chain, chains, last_node, of_length, recursions, under_excepts
 from vectors import Vectors
 
 DEFAULT_SEED = 5
@@ -193,6 +193,9 @@ def except_limit_groups():
             cells |= {NUMBERS_END + step for step in (-2, -1, 0, 1, count - 2, count - 1, count, count + 1)}
             cells |= {LAST_WORD, 2**63}
             yield table, (), [(count, [cell]) for cell in sorted(cells)]
+    for removed in (0, NUMBERS_END - 1):
+        for table, pool, start in under_excepts(removed, (1, 2, 99, 150, 197, 198, 199)):
+            yield table, pool, list(about_limit(table, pool, start))
 
 
 # ---- what each kind refuses ----

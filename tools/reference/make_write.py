@@ -26,7 +26,7 @@ from reference import (
     sizes,
     write,
 )
-from shapes import PRINTED, RULES, chain, chains, last_node, of_length, recursions
+from shapes import PRINTED, RULES, chain, chains, last_node, of_length, recursions, under_excepts
 from vectors import Vectors
 
 DEFAULT_SEED = 4
@@ -239,6 +239,9 @@ def except_groups():
             table = chain([(NATS, 0, 0)], lambda below: (EXCEPT, below, removed), count)
             numbers = (0, 4, 5, 6, NUMBERS_END - count - 1, NUMBERS_END - 2, NUMBERS_END - 1, NUMBERS_END)
             yield table, (), [(count, MOST_ROOM, max(0, number)) for number in numbers]
+    for table, pool, start in under_excepts(0, (1, 2, 100, 198, 199)):
+        numbers = (0, 1, NUMBERS_END - 2, NUMBERS_END - 1, NUMBERS_END)
+        yield table, pool, [(start, MOST_ROOM, number) for number in numbers]
 
 
 def refused_groups(random):

@@ -124,6 +124,27 @@ def chains():
     )
 
 
+# Endless grammars to stand under many excepts.
+UNDER_EXCEPTS = (
+    [(NATS, 0, 0)],
+    [(NATS, 0, 0), (CONS, 0, 0)],
+    [(NATS, 0, 0), (OR, 0, 0)],
+    [(BELOW, 3, 0), (NATS, 0, 0), (OR, 0, 1)],
+    [(BELOW, 3, 0), (NATS, 0, 0), (CONS, 0, 1)],
+    [(NATS, 0, 0), (BELOW, 3, 0), (CONS, 0, 1)],
+    [(BELOW, 2, 0), (NATS, 0, 0), (DEP, 0, 0)],
+)
+UNDER_EXCEPTS_POOL = (1, 1)
+
+
+def under_excepts(removed, counts):
+    """(table, pool, start): so many excepts over each of the endless grammars."""
+    for bottom in UNDER_EXCEPTS:
+        for count in counts:
+            table = chain(bottom, lambda below: (EXCEPT, below, removed), count)
+            yield table, UNDER_EXCEPTS_POOL, last_node(table)
+
+
 def with_fixes_above(table, start, count):
     """The table with more fixes over the start: start + k fixes stands k visits higher."""
     nodes = last_node(table) + 1

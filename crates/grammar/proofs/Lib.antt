@@ -8,3 +8,4 @@ pub mod Used
 pub mod Sound
 pub mod Scan
 pub mod Plans
+pub mod Grow

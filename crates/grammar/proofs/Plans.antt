@@ -30,10 +30,10 @@ appended [] s (suc k) = rw (eqb·suc-zero k)
 appended (y ∷ zs) s zero = rw (eqb·zero-suc (length zs))
 appended (y ∷ zs) s (suc k) = rw (eqb·suc-suc k (length zs)) (appended zs s k)
 
-at-end : (zs : List Size) (s : Size) (n : ℕ) → n ≡ length zs → sizeAt (zs ++ (s ∷ [])) n ≡ s
+pub at-end : (zs : List Size) (s : Size) (n : ℕ) → n ≡ length zs → sizeAt (zs ++ (s ∷ [])) n ≡ s
 at-end zs s n h = appended zs s n ∙ rw (eq-eqb n (length zs) h)
 
-at-other : (zs : List Size) (s : Size) (k : ℕ) → (k ≡ length zs → ⊥) → sizeAt (zs ++ (s ∷ [])) k ≡ sizeAt zs k
+pub at-other : (zs : List Size) (s : Size) (k : ℕ) → (k ≡ length zs → ⊥) → sizeAt (zs ++ (s ∷ [])) k ≡ sizeAt zs k
 at-other zs s k f = appended zs s k ∙ rw (ne-eqb k (length zs) f)
 
 -- ---- a row's four words

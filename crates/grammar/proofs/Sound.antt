@@ -1,5 +1,4 @@
 -- What a row that is passed shows of a node, and that its size is 01's.
---   Sound        the facts that a kind's checks leave, in their order
 --   sound-row    a row that gives a size shows them, and the size is that of 01's column "Size"
 --   small-for    a size that a row gives is at most 2^62, or endless
 -- Assumes nothing.
@@ -17,6 +16,7 @@ use Rattle.numbers.proofs.size.Laws.{below-is}
 use Rattle.grammar.specs.Table.{kindOf, aOf, bOf, nodes}
 use Rattle.grammar.specs.Node.{Node, below, nats, pool, shift, or, cons, dep, except, fix, again, unknown, nodeAt, spare}
 use Rattle.grammar.specs.Rows.{Check, asks, Row, fault, sized, row, further, within, different, fits, isEndless, isOne, few, count, seconds, total, allLower, allFinite, allEndless, belowRow, natsRow, poolRow, shiftRow, orRow, consRow, secondsRow, depRow, exceptRow, fixRow, againRow, rowOf, rowAt, isKnown, sizeFor}
+use Rattle.grammar.specs.Sound.{Sound}
 use Rattle.grammar.specs.Plan.{Small}
 use Rattle.grammar.specs.declared.refusal.Refusal.{Refusal}
 use Rattle.grammar.specs.declared.refusal.Refusal.the-variants.{Kind, SpareWord}
@@ -43,22 +43,6 @@ goes-last w e = e
 
 both : (a b : Bool) → (a && b) ≡ true → (a ≡ true) × (b ≡ true)
 both a b e = (and-left a b e, and-right a b e)
-
--- n is the node's own number, z has the sizes
-abbrev pub Sound : List ℕ → List ℕ → (ℕ → Size) → ℕ → Node → Type 0
-Sound t p z n (below a) = (1 ≤ a) × (a ≤ 2 ^ 62)
-Sound t p z n nats = Unit {0}
-Sound t p z n (pool a b) = (1 ≤ b) × (b ≤ 4096) × (a + b ≤ length p) × (different (take b (drop a p)) ≡ true)
-Sound t p z n (shift a k) = (a < n) × (k ≤ 2 ^ 32) × (((eqb (kindOf t a) 0 || eqb (kindOf t a) 1) || eqb (kindOf t a) 3) ≡ true)
-Sound t p z n (or a b) = (a < n) × (b < n) × (fits (plus (z a) (z b)) ≡ true)
-Sound t p z n (cons a b) = (a < n) × (b < n) × (fits (times (z a) (z b)) ≡ true)
-Sound t p z n (dep a b) =
-    (a < n) × (few (z a) ≡ true) × (b + count (z a) ≤ length p) × (allLower n (seconds p b (z a)) ≡ true)
-    × ((allFinite z (seconds p b (z a)) || allEndless z (seconds p b (z a))) ≡ true) × (fits (total z (seconds p b (z a))) ≡ true)
-Sound t p z n (except a b) = (a < n) × (isOne (z a) ≡ false) × Below b (z a) × (b < 2 ^ 62)
-Sound t p z n (fix a) = (a < n) × (isEndless (z a) ≡ true)
-Sound t p z n (again a) = (n < a) × (a < nodes t) × (kindOf t a ≡ 8)
-Sound t p z n unknown = ⊥
 
 module _ (t p : List ℕ) (z : ℕ → Size) (n : ℕ) where
   pub sound-row : (v : Node) {m : Size} → rowOf t p z n v ≡ sized m → Sound t p z n v × (m ≡ sizeFor p z v)

@@ -4,6 +4,7 @@ pub mod Table
 pub mod Node
 pub mod Used
 pub mod Rows
+pub mod Sound
 pub mod Sizes
 pub mod Steps
 pub mod Verdict

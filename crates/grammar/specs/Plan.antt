@@ -3,6 +3,7 @@
 --   rowed      a plan with node n's four words put in
 --   coded, weighedOf   a row's outcome, and a measured size, in the code's words
 --   Planned    the plan holds the nodes below n, with the sizes zs
+--   Ready      the table is checked, with the sizes of the plan
 --   AllWeighed the first fault and its node, or the plan of the whole table
 -- Assumes nothing.
 use mathlib.Core.Path.{_≡_}
@@ -12,6 +13,7 @@ use lib.ListN.{length, getD, set}
 use Rattle.numbers.specs.Size.{Size, finite, endless, codeOf, sizeOf}
 use Rattle.grammar.specs.Table.{kindOf, aOf, bOf, nodes}
 use Rattle.grammar.specs.Rows.{Row, fault, sized}
+use Rattle.grammar.specs.Sound.{Checked}
 use Rattle.grammar.specs.Sizes.{sizeAt, scan, passed, faulty, sizes}
 use Rattle.numbers.specs.declared.size.Measured.{Measured}
 use Rattle.numbers.specs.declared.size.Measured.the-variants.{Of as Measures, Past}
@@ -57,3 +59,7 @@ WeighedBy t p plan (Refused r k) = scan t p (nodes t) ≡ faulty r k
 
 pub record AllWeighed (t p plan : List ℕ) (v : Verdict) : Type 0 where
   pub is : WeighedBy t p plan v
+
+-- ---- a checked table by its plan
+pub record Ready (t p plan : List ℕ) : Type 0 where
+  pub checked : Checked t p (sizeIn plan)

@@ -1,5 +1,6 @@
--- The laws of lines, and how a line is read.
+-- The laws of lines, what callers know of a line that was read, and how it is read.
 pub mod Laws
+pub mod Outcomes
 mod Words
 mod Rest
 mod Counting

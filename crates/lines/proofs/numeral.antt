@@ -1,6 +1,6 @@
--- The laws of numerals, and the runs of digits that they are read from.
+-- The laws of numerals, and how one is read.
 pub mod Laws
+pub mod Digits
 mod Runs
 mod Values
 mod At
-pub mod Digits

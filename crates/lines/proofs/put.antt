@@ -1,3 +1,4 @@
--- How texts are put, byte by byte.
+-- What callers know of a text that was put, and how it is put.
+pub mod Outcomes
 mod Spelling
 mod Putting

@@ -48,6 +48,7 @@ whole size Not = none
 unfoldable pub numberOf : List ℕ → Option ℕ
 numberOf w = whole (length w) (numeralAt w 0)
 
+-- a number and those behind it, if all are there
 abbrev pub both : Option ℕ → Option (List ℕ) → Option (List ℕ)
 both (some n) (some ns) = some (n ∷ ns)
 both (some n) none = none

@@ -33,6 +33,7 @@ wellFormed [] = false
 wellFormed (d ∷ []) = true
 wellFormed (d ∷ e ∷ ds) = not (eqb d digit0)
 
+-- the number of a run that starts at a place
 unfoldable pub numeral : List ℕ → ℕ → Numeral
 numeral ds at = cond (wellFormed ds && ltb (value ds) (2 ^ 64)) (Of (value ds) (at + length ds)) Not
 

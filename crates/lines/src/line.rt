@@ -13,6 +13,7 @@ pub enum Line {
     Unreadable,
 }
 
+// `out` changes only where the whole line is readable and its numbers have room.
 pub fn numbers_at(text: &[u8], at: usize, out: &mut [u64]) -> Line
     ensures { λ r. ⌜ ReadLine (now (text .entry)) at (now (out .entry)) (now (out .exit)) r ⌝ }
 {
@@ -41,10 +42,10 @@ fn count_at(text: &[u8], at: usize, room: usize) -> Line
         let Numeral::Of(_, end) = number_at(text, i) else {
             return Line::Unreadable;
         };
-        if text.len() <= end {
-            return Line::Unreadable;
-        }
         count += 1;
+        if text.len() <= end {
+            return Line::Unreadable; // no LF
+        }
         if text[end] == LF {
             return Line::Numbers(count, end + 1);
         }

@@ -24,6 +24,7 @@ enum Word {
     Past,
 }
 
+// All digits from `at` on belong to the number: "012" is no number, and not 0 before 12.
 pub fn number_at(text: &[u8], at: usize) -> Numeral
     ensures { λ r. ⌜ r ≡ numeralAt (now (text .entry)) at ⌝ }
 {
@@ -35,7 +36,7 @@ pub fn number_at(text: &[u8], at: usize) -> Numeral
         if end == at + 1 {
             return Numeral::Of(0, end);
         }
-        return Numeral::Not;
+        return Numeral::Not; // a leading zero
     }
     match value_of(text, at, end) {
         Word::Fits(value) => Numeral::Of(value, end),

@@ -14,6 +14,7 @@ pub enum Put {
     NoRoom,
 }
 
+// The shortest decimal text of n.
 pub fn put_number(n: u64, out: &mut [u8]) -> Put
     ensures { λ r. ⌜ PutFront (decimal n) (now (out .entry)) (now (out .exit)) r ⌝ }
 {
@@ -25,6 +26,7 @@ pub fn put_number(n: u64, out: &mut [u8]) -> Put
     Put::Bytes(size)
 }
 
+// The bytes as they are.
 pub fn put_bytes(text: &[u8], out: &mut [u8]) -> Put
     ensures { λ r. ⌜ PutFront (now (text .entry)) (now (out .entry)) (now (out .exit)) r ⌝ }
 {

@@ -2,29 +2,28 @@
 --   AllWords        each number is below 2^64
 --   line-back       the text of a line reads as its numbers, anywhere in a text
 --   line-text       what reads as a line of numbers is its text
+--   line-within     and lies in the text
+--   line-words      its numbers are below 2^64
 -- Assumes nothing.
 use mathlib.Core.Path.{_≡_, refl, sym, ap, _∙_}
 use mathlib.Core.Bool.{Bool, true, false, cond}
-use mathlib.Core.List.{List, [], _∷_, _++_, append-nil, append-assoc}
+use mathlib.Core.List.{List, [], _∷_, _++_, append-assoc}
 use mathlib.Core.Option.{Option, none, some, Option·map}
-use Prim.Native.Nat.{ℕ, zero, suc, _+_, _-_, _^_, _≤_, _<_}
+use Prim.Native.Nat.{ℕ, _+_, _-_, _^_, _≤_, _<_}
 use native.Mathlib.Omega.{arith}
-use lib.Dec.{eqb, ltb}
-use lib.ListN.{length, take, drop, length-append}
-use lib.Seq.{append-snoc, drop-append-seam, take-append-seam, take-all}
+use lib.Dec.{eqb}
+use lib.ListN.{length, take, drop, length-append, length-drop}
+use lib.Seq.{drop-append-seam, take-append-seam, take-all}
 use borrow.Author.Tests.{eqb-true}
 use Rattle.lines.specs.Numeral.{run, wellFormed, numeral, numeralAt}
 use Rattle.lines.specs.Decimal.{decimal}
-use Rattle.lines.specs.Line.{Reading, numbers, unreadable, ended, longer, words, whole, numberOf, both, numbersOf, lineNumbers, upTo, lineBy, lineAt, lineText}
+use Rattle.lines.specs.Line.{numbers, ended, longer, words, whole, numberOf, both, numbersOf, lineNumbers, upTo, lineBy, lineAt, lineText}
 use Rattle.lines.specs.declared.numeral.Numeral.{Numeral}
 use Rattle.lines.specs.declared.numeral.Numeral.the-variants.{Of, Not}
-use Rattle.lines.proofs.Decimals.{decimal-some}
-use Rattle.lines.proofs.Laws.{decimal-digits, decimal-numeral, one-text}
+use Rattle.lines.proofs.numeral.Laws.{decimal-digits, decimal-numeral, one-text, number-word}
+use Rattle.lines.proofs.line.Outcomes.{readable-not}
 use Rattle.lines.proofs.line.Words.{FirstWord, words-some, number-of}
 use Rattle.lines.proofs.line.Rest.{restBy, at-lf, at-space}
-
-readable-not : {ns : List ℕ} {next : ℕ} → unreadable ≡ numbers ns next → ⊥
-readable-not e = let z : _≡_ {A = ℕ} 0 1 = cc in omega arith
 
 none-not : {A : Type 0} {a : A} → none ≡ some a → ⊥
 none-not e = let z : _≡_ {A = ℕ} 0 1 = cc in omega arith
@@ -71,7 +70,8 @@ unfolding ended
 ended-split [] line e = absurd (none-not e)
 ended-split (b ∷ bs) line e = by (eqb b 10) (ended bs) refl refl e (λ l t. ended-split bs l t)
   where
-    by : (q : Bool) (o : Option (List ℕ)) → eqb b 10 ≡ q → ended bs ≡ o → cond q (some []) (Option·map (b ∷_) o) ≡ some line → ((l : List ℕ) → ended bs ≡ some l → Ended bs l) → Ended (b ∷ bs) line
+    by : (q : Bool) (o : Option (List ℕ)) → eqb b 10 ≡ q → ended bs ≡ o → cond q (some []) (Option·map (b ∷_) o) ≡ some line
+        → ((l : List ℕ) → ended bs ≡ some l → Ended bs l) → Ended (b ∷ bs) line
     by true o p t f r = let same : _≡_ {A = List ℕ} [] line = cc in rw (← same, eqb-true b 10 p) (record { rest = bs; is = refl })
     by false none p t f r = absurd (none-not f)
     by false (some l) p t f r = let same : b ∷ l ≡ line = cc in let g = r l t in rw (← same) (record { rest = g .rest; is = ap (b ∷_) (g .is) })
@@ -95,21 +95,38 @@ joined-words (b ∷ l) = by (eqb b 32) refl (words-some l) (joined-words l)
     by true e f h = rw (eqb-true b 32 e, f .is) (ap (32 ∷_) (rw (f .is) at h))
     by false e f h = rw (f .is) (after (f .first) (f .others) ∙ ap (b ∷_) (rw (f .is) at h))
 
--- a word that is a number is its decimal text
-word-text : (w : List ℕ) {n : ℕ} → numberOf w ≡ some n → w ≡ decimal n
+-- a word that is a number is its decimal text, and the number is a word's
+record WordOf (w : List ℕ) (n : ℕ) : Type 0 where
+  text : w ≡ decimal n
+  small : n < 2 ^ 64
+
+word-of : (w : List ℕ) {n : ℕ} → numberOf w ≡ some n → WordOf w n
 unfolding numberOf
-word-text w {n} e = by (numeralAt w 0) refl e
+word-of w {n} e = by (numeralAt w 0) refl e
   where
-    found : (v end : ℕ) → numeralAt w 0 ≡ Of v end → (q : Bool) → eqb end (length w) ≡ q → cond q (some v) none ≡ some n → w ≡ decimal n
+    found : (v end : ℕ) → numeralAt w 0 ≡ Of v end → (q : Bool) → eqb end (length w) ≡ q → cond q (some v) none ≡ some n → WordOf w n
     found v end t true p f =
         let same : v ≡ n = cc in
         let size : end - 0 ≡ length w = omega (arith, eqb-true end (length w) p) in
-        sym (ap (λ (k : ℕ). take k w) size ∙ take-all (length w) w (omega arith)) ∙ one-text w 0 t ∙ ap decimal same
+        record {
+          text = sym (ap (λ (k : ℕ). take k w) size ∙ take-all (length w) w (omega arith)) ∙ one-text w 0 t ∙ ap decimal same;
+          small = rw same at (number-word w 0 t);
+        }
     found v end t false p f = absurd (none-not f)
 
-    by : (x : Numeral) → numeralAt w 0 ≡ x → whole (length w) x ≡ some n → w ≡ decimal n
+    by : (x : Numeral) → numeralAt w 0 ≡ x → whole (length w) x ≡ some n → WordOf w n
     by (Of v end) t f = found v end t (eqb end (length w)) refl f
     by Not t f = absurd (none-not f)
+
+numbers-words : (ws : List (List ℕ)) {ns : List ℕ} → numbersOf ws ≡ some ns → AllWords ns
+unfolding numbersOf
+numbers-words [] {ns} e = let same : _≡_ {A = List ℕ} [] ns = cc in rw (← same) tt
+numbers-words (w ∷ ws) {ns} e = by (numberOf w) (numbersOf ws) refl refl e (λ ms t. numbers-words ws t)
+  where
+    by : (o : Option ℕ) (p : Option (List ℕ)) → numberOf w ≡ o → numbersOf ws ≡ p → both o p ≡ some ns → ((ms : List ℕ) → numbersOf ws ≡ some ms → AllWords ms) → AllWords ns
+    by none p t u f r = absurd (none-not f)
+    by (some n) none t u f r = absurd (none-not f)
+    by (some n) (some ms) t u f r = let same : n ∷ ms ≡ ns = cc in rw (← same) (word-of w t .small, r ms u)
 
 numbers-some : (w : List ℕ) (ws : List (List ℕ)) → numbersOf (w ∷ ws) ≡ some [] → ⊥
 unfolding numbersOf
@@ -126,39 +143,79 @@ unfolding joined numbersOf lineText
 numbers-text w [] {ns} e = by (numberOf w) refl e
   where
     by : (o : Option ℕ) → numberOf w ≡ o → both o (some []) ≡ some ns → w ++ (10 ∷ []) ≡ lineText ns
-    by (some n) t f = let same : n ∷ [] ≡ ns = cc in rw (← same) (ap (_++ (10 ∷ [])) (word-text w t))
+    by (some n) t f = let same : n ∷ [] ≡ ns = cc in rw (← same) (ap (_++ (10 ∷ [])) (word-of w t .text))
     by none t f = absurd (none-not f)
 numbers-text w (v ∷ ws) {ns} e = by (numberOf w) (numbersOf (v ∷ ws)) refl refl e (λ ms t. numbers-text v ws t)
   where
-    by : (o : Option ℕ) (p : Option (List ℕ)) → numberOf w ≡ o → numbersOf (v ∷ ws) ≡ p → both o p ≡ some ns → ((ms : List ℕ) → numbersOf (v ∷ ws) ≡ some ms → joined (v ∷ ws) ++ (10 ∷ []) ≡ lineText ms) → (w ++ (32 ∷ joined (v ∷ ws))) ++ (10 ∷ []) ≡ lineText ns
+    by : (o : Option ℕ) (p : Option (List ℕ)) → numberOf w ≡ o → numbersOf (v ∷ ws) ≡ p → both o p ≡ some ns
+        → ((ms : List ℕ) → numbersOf (v ∷ ws) ≡ some ms → joined (v ∷ ws) ++ (10 ∷ []) ≡ lineText ms) → (w ++ (32 ∷ joined (v ∷ ws))) ++ (10 ∷ []) ≡ lineText ns
     by none p t u f r = absurd (none-not f)
     by (some n) none t u f r = absurd (none-not f)
     by (some n) (some []) t u f r = absurd (numbers-some v ws u)
     by (some n) (some (m ∷ ms)) t u f r =
         let same : n ∷ m ∷ ms ≡ ns = cc in
-        rw (← same, append-assoc w (32 ∷ joined (v ∷ ws)) (10 ∷ []), r (m ∷ ms) u) (ap (_++ (32 ∷ lineText (m ∷ ms))) (word-text w t))
+        rw (← same, append-assoc w (32 ∷ joined (v ∷ ws)) (10 ∷ []), r (m ∷ ms) u) (ap (_++ (32 ∷ lineText (m ∷ ms))) (word-of w t .text))
 
-line-of : (line : List ℕ) {ns : List ℕ} → lineNumbers line ≡ some ns → line ++ (10 ∷ []) ≡ lineText ns
+record LineOf (line ns : List ℕ) : Type 0 where
+  text : line ++ (10 ∷ []) ≡ lineText ns
+  small : AllWords ns
+
+line-of : (line : List ℕ) {ns : List ℕ} → lineNumbers line ≡ some ns → LineOf line ns
 unfolding lineText
-line-of [] {ns} e = let same : _≡_ {A = List ℕ} [] ns = cc in rw (← same)
+line-of [] {ns} e = let same : _≡_ {A = List ℕ} [] ns = cc in rw (← same) (record { text = refl; small = tt })
 line-of (b ∷ line) e =
     let f = words-some (b ∷ line) in
-    ap (_++ (10 ∷ [])) (sym (joined-words (b ∷ line)) ∙ ap joined (f .is)) ∙ numbers-text (f .first) (f .others) (rw (f .is) at e)
+    record {
+      text = ap (_++ (10 ∷ [])) (sym (joined-words (b ∷ line)) ∙ ap joined (f .is)) ∙ numbers-text (f .first) (f .others) (rw (f .is) at e);
+      small = numbers-words (words (b ∷ line)) e;
+    }
 
-pub line-text : (text : List ℕ) (at : ℕ) {ns : List ℕ} {next : ℕ} → lineAt text at ≡ numbers ns next → take (next - at) (drop at text) ≡ lineText ns
+record Found (text : List ℕ) (at : ℕ) (ns : List ℕ) (next : ℕ) : Type 0 where
+  rest : List ℕ
+  end : next ≡ at + length (lineText ns)
+  is : drop at text ≡ lineText ns ++ rest
+  small : AllWords ns
+
+line-found : (text : List ℕ) (at : ℕ) {ns : List ℕ} {next : ℕ} → lineAt text at ≡ numbers ns next → Found text at ns next
 unfolding lineAt
-line-text text at {ns} {next} e = by (ended (drop at text)) refl e
+line-found text at {ns} {next} e = by (ended (drop at text)) refl e
   where
-    found : (line : List ℕ) → ended (drop at text) ≡ some line → (o : Option (List ℕ)) → lineNumbers line ≡ o → upTo (at + length line + 1) o ≡ numbers ns next → take (next - at) (drop at text) ≡ lineText ns
+    found : (line : List ℕ) → ended (drop at text) ≡ some line → (o : Option (List ℕ)) → lineNumbers line ≡ o → upTo (at + length line + 1) o ≡ numbers ns next
+        → Found text at ns next
     found line t none u f = absurd (readable-not f)
     found line t (some ms) u f =
         let cut = ended-split (drop at text) line t in
         let same : ms ≡ ns = cc in
-        let end : at + length line + 1 ≡ next = cc in
-        let size : next - at ≡ length (line ++ (10 ∷ [])) = omega (arith, length-append line (10 ∷ [])) in
-        let whole : drop at text ≡ (line ++ (10 ∷ [])) ++ cut .rest = cut .is ∙ sym (append-assoc line (10 ∷ []) (cut .rest)) in
-        rw (size, whole, take-append-seam (line ++ (10 ∷ [])) (cut .rest), ← same) (line-of line u)
+        let stop : at + length line + 1 ≡ next = cc in
+        let it = rw same at (line-of line u) in
+        record {
+          rest = cut .rest;
+          end = omega (arith, length-append line (10 ∷ []), ap length (it .text));
+          is = rw (← it .text, append-assoc) (cut .is);
+          small = it .small;
+        }
 
-    by : (o : Option (List ℕ)) → ended (drop at text) ≡ o → lineBy at o ≡ numbers ns next → take (next - at) (drop at text) ≡ lineText ns
+    by : (o : Option (List ℕ)) → ended (drop at text) ≡ o → lineBy at o ≡ numbers ns next → Found text at ns next
     by none t f = absurd (readable-not f)
     by (some line) t f = found line t (lineNumbers line) refl f
+
+text-some : (ns : List ℕ) → 0 < length (lineText ns)
+unfolding lineText
+text-some [] = omega arith
+text-some (n ∷ []) = omega (arith, length-append (decimal n) (10 ∷ []))
+text-some (n ∷ m ∷ ns) = omega (arith, length-append (decimal n) (32 ∷ lineText (m ∷ ns)))
+
+module _ (text : List ℕ) (at : ℕ) {ns : List ℕ} {next : ℕ} (e : lineAt text at ≡ numbers ns next) where
+  pub line-text : take (next - at) (drop at text) ≡ lineText ns
+  line-text =
+      let f = line-found text at e in
+      let size : next - at ≡ length (lineText ns) = omega (arith, f .end) in
+      rw (size, f .is) (take-append-seam (lineText ns) (f .rest))
+
+  pub line-within : (at < next) × (next ≤ length text)
+  line-within =
+      let f = line-found text at e in
+      omega (arith, f .end, text-some ns, ap length (f .is) ∙ length-append (lineText ns) (f .rest), length-drop at text)
+
+  pub line-words : AllWords ns
+  line-words = line-found text at e .small

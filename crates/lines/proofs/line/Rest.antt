@@ -7,22 +7,22 @@
 --   at-lf, at-space        the same of the list of bytes
 -- Assumes nothing.
 use mathlib.Core.Path.{_≡_, refl, sym, ap, _∙_}
-use mathlib.Core.Bool.{Bool, true, false, cond}
+use mathlib.Core.Bool.{Bool, true, false}
 use mathlib.Core.List.{List, [], _∷_, _++_, append-nil}
 use mathlib.Core.Option.{Option, none, some, Option·map}
-use Prim.Native.Nat.{ℕ, zero, suc, _+_, _≤_, _<_}
+use Prim.Native.Nat.{ℕ, suc, _+_, _≤_, _<_}
 use native.Mathlib.Numerals.{add-one}
 use native.Mathlib.Omega.{arith}
 use lib.Dec.{eqb}
 use lib.ListN.{length, getD, drop, length-append, drop-of-length-le}
 use lib.Seq.{drop-cons, drop-drop}
-use borrow.Author.Tests.{ne-eqb, eqb-true, eqb-false}
+use borrow.Author.Tests.{ne-eqb, eqb-true}
 use Rattle.lines.specs.Ascii.{isDigit}
-use Rattle.lines.specs.Numeral.{run, numeral, numeralAt}
-use Rattle.lines.specs.Line.{Reading, numbers, unreadable, ended, longer, words, numberOf, both, numbersOf, upTo, lineBy, lineAt}
+use Rattle.lines.specs.Numeral.{run, numeralAt}
+use Rattle.lines.specs.Line.{Reading, numbers, unreadable, ended, words, numberOf, both, numbersOf, upTo, lineBy, lineAt}
 use Rattle.lines.specs.declared.numeral.Numeral.the-variants.{Of, Not}
 use Rattle.lines.proofs.numeral.Digits.{Digits, Stops, run-digits, run-stops, run-split, numeral-of}
-use Rattle.lines.proofs.line.Words.{FirstWord, ended-digits, words-some, words-digits, number-of, number-not, number-other}
+use Rattle.lines.proofs.line.Words.{ended-digits, words-some, words-digits, number-of, number-not, number-other}
 
 abbrev pub restBy : ℕ → Option (List ℕ) → Reading
 restBy i (some line) = upTo (i + length line + 1) (numbersOf (words line))

@@ -3,32 +3,22 @@
 --   store-start, store-not, store-room, store-within, store-more, store-same, store-end    the loop's steps
 -- Assumes nothing.
 use mathlib.Core.Path.{_≡_, refl, sym, ap, _∙_}
-use mathlib.Core.Bool.{Bool, true, false, cond}
+use mathlib.Core.Bool.{Bool, true, false}
 use mathlib.Core.List.{List, [], _∷_, _++_}
-use Prim.Native.Nat.{ℕ, zero, suc, _+_, _≤_, _<_}
+use Prim.Native.Nat.{ℕ, _+_, _≤_, _<_}
 use native.Mathlib.Numerals.{add-one}
 use native.Mathlib.Omega.{arith}
-use lib.Dec.{leb, ltb, eqb}
+use lib.Dec.{ltb, eqb}
 use lib.ListN.{length, getD, take, drop, set, length-drop}
 use lib.Seq.{drop-cons}
-use borrow.Author.Tests.{leb-true, ltb-true, ltb-false, eqb-true, eqb-false}
+use borrow.Author.Tests.{ltb-true, ltb-false, eqb-true, eqb-false}
 use Rattle.lines.specs.Numeral.{numeralAt}
 use Rattle.lines.specs.Line.{Reading, numbers, unreadable, lineAt, within, stored, HasCount}
 use Rattle.lines.specs.declared.numeral.Numeral.{Numeral}
 use Rattle.lines.specs.declared.numeral.Numeral.the-variants.{Of, Not}
 use Rattle.lines.proofs.Fronts.{front-more, front-length, front-all}
+use Rattle.lines.proofs.line.Outcomes.{readable-not, within-back}
 use Rattle.lines.proofs.line.Rest.{restAt, onto, line-some, rest-not, rest-over, rest-lf, rest-space, rest-other}
-
-readable-not : {ns : List ℕ} {next : ℕ} → unreadable ≡ numbers ns next → ⊥
-readable-not e = let z : _≡_ {A = ℕ} 0 1 = cc in omega arith
-
-within-back : (room : ℕ) (x : Reading) {ns : List ℕ} {next : ℕ} → within room x ≡ numbers ns next → (x ≡ numbers ns next) × (length ns ≤ room)
-within-back room (numbers ms end) {ns} {next} e = by (leb (length ms) room) refl e
-  where
-    by : (q : Bool) → leb (length ms) room ≡ q → cond q (numbers ms end) unreadable ≡ numbers ns next → (numbers ms end ≡ numbers ns next) × (length ns ≤ room)
-    by true t f = let same : ms ≡ ns = cc in (f, rw same at (leb-true (length ms) room t))
-    by false t f = absurd (readable-not f)
-within-back room unreadable e = absurd (readable-not e)
 
 -- ---- one number of the rest
 record Step (text : List ℕ) (v e m : ℕ) (ms : List ℕ) (next : ℕ) : Type 0 where

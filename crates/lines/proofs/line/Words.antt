@@ -4,21 +4,21 @@
 --   number-of, number-not      the number of a word that is digits
 --   number-other               digits and another byte are no number
 -- Assumes nothing.
-use mathlib.Core.Path.{_≡_, refl, sym, ap, _∙_}
-use mathlib.Core.Bool.{Bool, true, false, cond}
+use mathlib.Core.Path.{_≡_, refl}
+use mathlib.Core.Bool.{Bool, true, false}
 use mathlib.Core.List.{List, [], _∷_, _++_, append-nil}
 use mathlib.Core.Option.{Option, none, some, Option·map}
-use Prim.Native.Nat.{ℕ, zero, suc, _+_, _≤_, _<_}
+use Prim.Native.Nat.{ℕ}
 use native.Mathlib.Omega.{arith}
 use lib.Dec.{eqb}
 use lib.ListN.{length, length-append}
 use borrow.Author.Tests.{ne-eqb, eq-eqb}
 use Rattle.lines.specs.Ascii.{isDigit}
 use Rattle.lines.specs.Numeral.{run, numeral}
-use Rattle.lines.specs.Line.{ended, longer, words, whole, numberOf}
+use Rattle.lines.specs.Line.{ended, words, whole, numberOf}
 use Rattle.lines.specs.declared.numeral.Numeral.{Numeral}
 use Rattle.lines.specs.declared.numeral.Numeral.the-variants.{Of, Not}
-use Rattle.lines.proofs.numeral.Digits.{digit-low, Digits, Stops, run-of, numeral-of, numeral-not}
+use Rattle.lines.proofs.numeral.Digits.{digit-low, Digits, run-of, numeral-of, numeral-not}
 
 not-lf : (d : ℕ) → isDigit d ≡ true → eqb d 10 ≡ false
 not-lf d e = ne-eqb d 10 (omega (arith, digit-low d e))

@@ -5,17 +5,16 @@
 --   run-of                     digits with no digit behind them are the run
 --   numeral-of, numeral-not    the number of a run does not depend on where it stands
 -- Assumes nothing.
-use mathlib.Core.Path.{_≡_, refl, sym, ap, _∙_}
+use mathlib.Core.Path.{_≡_, refl, ap}
 use mathlib.Core.Bool.{Bool, true, false, cond, _&&_}
 use mathlib.Core.List.{List, [], _∷_, _++_}
-use Prim.Native.Nat.{ℕ, zero, suc, _+_, _^_, _≤_, _<_}
+use Prim.Native.Nat.{ℕ, _+_, _^_, _≤_}
 use native.Mathlib.Omega.{arith}
 use lib.Dec.{leb, ltb}
 use lib.ListN.{length, drop}
 use borrow.Author.Tests.{le-leb, leb-true}
 use Rattle.lines.specs.Ascii.{isDigit}
 use Rattle.lines.specs.Numeral.{run, value, wellFormed, numeral}
-use Rattle.lines.specs.declared.numeral.Numeral.{Numeral}
 use Rattle.lines.specs.declared.numeral.Numeral.the-variants.{Of, Not}
 use Rattle.lines.proofs.Tests.{and-left, and-right}
 

@@ -1,4 +1,5 @@
 -- The value of a run of digits, as a loop over its places builds it.
+--   is-word, is-past, fits-back, past-back    a number as a word, and back
 --   value-least               more digits give no less
 --   Valued                    what is known at a place: the value is that of the digits so far and the run from here
 --   valued-start, valued-at, valued-more, valued-past, valued-end    the loop's steps
@@ -6,18 +7,25 @@
 use mathlib.Core.Path.{_≡_, refl, sym, ap, _∙_}
 use mathlib.Core.Bool.{Bool, true, false, cond}
 use mathlib.Core.List.{List, [], _∷_}
-use Prim.Native.Nat.{ℕ, zero, suc, _+_, _*_, _-_, _^_, _≤_, _<_}
+use Prim.Native.Nat.{ℕ, _+_, _*_, _-_, _^_, _≤_, _<_}
 use native.Mathlib.Omega.{arith}
 use lib.Dec.{ltb}
 use lib.ListN.{length, getD, drop}
-use borrow.Author.Tests.{ltb-true, ltb-false}
+use borrow.Author.Tests.{lt-ltb, le-ltb, ltb-true, ltb-false}
 use Rattle.lines.specs.Numeral.{run, valueFrom, value, worded}
 use Rattle.lines.specs.declared.numeral.Word.{Word}
 use Rattle.lines.specs.declared.numeral.Word.the-variants.{Fits, Past}
 use Rattle.lines.proofs.numeral.Runs.{Next, next, run-digit}
-use Rattle.lines.proofs.numeral.Laws.{is-word, is-past}
 
 -- ---- a number as a word
+pub is-word : (n : ℕ) → n < 2 ^ 64 → Fits n ≡ worded n
+unfolding worded
+is-word n h = rw (lt-ltb n (2 ^ 64) h)
+
+pub is-past : (n : ℕ) → 2 ^ 64 ≤ n → Past ≡ worded n
+unfolding worded
+is-past n h = rw (le-ltb n (2 ^ 64) h)
+
 pub fits-back : (n w : ℕ) → worded n ≡ Fits w → (w ≡ n) × (n < 2 ^ 64)
 unfolding worded
 fits-back n w e = by (ltb n (2 ^ 64)) refl e

@@ -27,7 +27,9 @@ store-spec =
     (λ c. absurd (search store-not))
     (λ c. omega (arith, store-same (c .before .before .before .before .before .loop .inv)))
     (λ c. omega (arith, store-same (c .before .before .before .before .before .loop .inv)))
-    (λ c. omega (arith, store-within (c .before .before .before .before .before .loop .inv) (c .before .before .before .before .loop-test .taken) (c .before .before .before .number-at .ensures) (c .before .value .given .1)))
+    (λ c.
+    let n = c .before .before .before in
+    omega (arith, store-within (n .before .before .loop .inv) (n .before .loop-test .taken) (n .number-at .ensures) (c .before .value .given .1)))
     (λ c. omega arith)
     (λ c. omega arith)
     (λ c. search store-more)

@@ -1,7 +1,6 @@
 -- `lines::numeral::number_at` is the number at a place.
 -- Assumes nothing.
 use borrow.Author.Needs.{needs}
-use native.Mathlib.Omega.{arith}
 use Rattle.lines.proofs.numeral.At.{at-none, at-first, at-zero, at-leading, at-word, at-past}
 use Rattle.lines.proofs.numeral.number_at.Statement.{statement}
 use Rattle.lines.proofs.numeral.number_at.Tie as tie

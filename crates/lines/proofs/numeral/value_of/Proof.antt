@@ -3,7 +3,6 @@
 use borrow.Author.Needs.{needs}
 use Prim.Native.Nat.{_-_}
 use native.Mathlib.Omega.{arith}
-use Rattle.lines.proofs.numeral.Runs.{Next}
 use Rattle.lines.proofs.numeral.Values.{Valued, valued-start, valued-at, valued-more, valued-past, valued-end}
 use Rattle.lines.proofs.numeral.value_of.Statement.{statement}
 use Rattle.lines.proofs.numeral.value_of.Tie as tie

@@ -1,14 +1,8 @@
 -- `lines::numeral::with_digit` is ten times a number and a digit, as a word.
 -- Assumes nothing.
 use borrow.Author.Needs.{needs}
-use mathlib.Core.Path.{_≡_}
-use mathlib.Core.Bool.{true, false}
-use Prim.Native.Nat.{ℕ, _+_, _*_, _^_, _≤_, _<_}
 use native.Mathlib.Omega.{arith}
-use lib.Dec.{ltb}
-use borrow.Author.Tests.{lt-ltb, le-ltb}
-use Rattle.lines.specs.Numeral.{worded}
-use Rattle.lines.proofs.numeral.Laws.{is-word, is-past}
+use Rattle.lines.proofs.numeral.Values.{is-word, is-past}
 use Rattle.lines.proofs.numeral.with_digit.Statement.{statement}
 use Rattle.lines.proofs.numeral.with_digit.Tie as tie
 

@@ -1,0 +1,4 @@
+-- What the proofs of the calls cite, what the check's verdict means, and worked cases.
+pub mod Preparing
+pub mod Meaning
+pub mod Worked

@@ -1,0 +1,68 @@
+-- The verdict by what the code of `prepare` has found.
+--   prepared-length   the lengths are not as they must be
+--   prepared-fault    a node is refused
+--   prepared-cycles   the nodes pass, and the verdict is that on cycles
+-- Assumes nothing.
+use mathlib.Core.Path.{_≡_, refl, sym, ap, _∙_, fun-ext}
+use mathlib.Core.Bool.{Bool, true, false, _&&_}
+use mathlib.Core.List.{List}
+use Prim.Native.Nat.{ℕ, _*_, _≤_, _<_}
+use native.Mathlib.Omega.{arith}
+use lib.Dec.{eqb, leb}
+use lib.ListN.{length}
+use borrow.Author.Tests.{eq-eqb, le-leb}
+use Rattle.numbers.specs.Size.{Size}
+use Rattle.grammar.specs.Table.{nodes, lengths}
+use Rattle.grammar.specs.Sizes.{sizeAt, scan, passed, faulty, sizes}
+use Rattle.grammar.specs.Sound.{Checked}
+use Rattle.grammar.specs.Plan.{sizeIn, Planned, WeighedBy, AllWeighed, Ready}
+use Rattle.grammar.specs.Verdict.{cycles, settled, verdict}
+use Rattle.grammar.specs.declared.refusal.Refusal.{Refusal}
+use Rattle.grammar.specs.declared.refusal.Refusal.the-variants.{Length}
+use Rattle.grammar.specs.declared.refusal.Verdict.{Verdict}
+use Rattle.grammar.specs.declared.refusal.Verdict.the-variants.{Accepted, Refused}
+use Rattle.grammar.proofs.Scan.{scan-sound}
+use Rattle.grammar.proofs.Plans.{plan-sizes}
+use Rattle.cases.specs.Prepared.{Planning, Prepared}
+
+pub refused-not : {r : Refusal} {k : ℕ} → Refused r k ≡ Accepted → ⊥
+refused-not e = let x : _≡_ {A = ℕ} 0 1 = cc in omega arith
+
+pub prepared-length : (t p plan : List ℕ) → lengths t p ≡ false → Prepared t p plan (Refused Length 0)
+unfolding verdict
+prepared-length t p plan e = record { is = rw e; ready = λ a. absurd (refused-not a) }
+
+-- what was found by the weighing, at the arm's constructor
+told : {t p plan : List ℕ} {v w : Verdict} → AllWeighed t p plan v → v ≡ w → WeighedBy t p plan w
+told {t} {p} {plan} a e = rw e at (a .is)
+
+module _ (t p : List ℕ) {plan : List ℕ} (whole : length t ≡ 3 * nodes t) (some : 1 ≤ nodes t) (few : nodes t ≤ 256) (pooled : length p ≤ 4096) {v : Verdict} (a : AllWeighed t p plan v) where
+  long : lengths t p ≡ true
+  long = rw (eq-eqb (length t) (3 * nodes t) whole, le-leb 1 (nodes t) some, le-leb (nodes t) 256 few, le-leb (length p) 4096 pooled)
+
+  pub prepared-fault : {r : Refusal} {k : ℕ} → v ≡ Refused r k → Prepared t p plan (Refused r k)
+  unfolding verdict settled
+  prepared-fault e = record { is = rw (long, told a e); ready = λ x. absurd (refused-not x) }
+
+  module _ (e : v ≡ Accepted) where
+    passes : scan t p (nodes t) ≡ passed (sizes t p)
+    passes = told a e .0
+
+    plans : Planned t (sizes t p) (nodes t) plan
+    plans = told a e .1
+
+    checked : Checked t p (sizeAt (sizes t p))
+    checked = record { whole = whole; few = few; sound = λ n l. scan-sound t p passes n l }
+
+    same : sizeIn plan ≡ sizeAt (sizes t p)
+    same = fun-ext (plan-sizes plans)
+
+    pub prepared-ready : Ready t p plan
+    prepared-ready = record { checked = rw same checked }
+
+    pub prepared-cycles : {w : Verdict} → w ≡ cycles t p (sizeIn plan) → Prepared t p plan w
+    unfolding verdict settled
+    prepared-cycles f = record {
+      is = rw (long, passes) (f ∙ ap (λ (z : ℕ → Size). cycles t p z) same);
+      ready = λ x. record { passes = passes; plans = plans; checked = checked };
+    }

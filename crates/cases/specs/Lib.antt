@@ -1,0 +1,2 @@
+-- What the public calls on one case promise.
+pub mod Prepared

@@ -1,0 +1,23 @@
+-- The check inside a call: its verdict, and the plan of an accepted table.
+--   Prepared   the verdict is the table's, and where it is accepted the plan holds its nodes and their sizes
+-- Assumes nothing.
+use mathlib.Core.Path.{_≡_}
+use mathlib.Core.List.{List}
+use Rattle.numbers.specs.Size.{Size}
+use Rattle.grammar.specs.Table.{nodes}
+use Rattle.grammar.specs.Sizes.{sizeAt, scan, passed, sizes}
+use Rattle.grammar.specs.Sound.{Checked}
+use Rattle.grammar.specs.Plan.{Planned}
+use Rattle.grammar.specs.Verdict.{verdict}
+use Rattle.grammar.specs.declared.refusal.Verdict.{Verdict}
+use Rattle.grammar.specs.declared.refusal.Verdict.the-variants.{Accepted}
+use Prim.Native.Nat.{ℕ}
+
+pub record Planning (t p plan : List ℕ) : Type 0 where
+  pub passes : scan t p (nodes t) ≡ passed (sizes t p)
+  pub plans : Planned t (sizes t p) (nodes t) plan
+  pub checked : Checked t p (sizeAt (sizes t p))
+
+pub record Prepared (t p plan : List ℕ) (v : Verdict) : Type 0 where
+  pub is : v ≡ verdict t p
+  pub ready : v ≡ Accepted → Planning t p plan

@@ -1,0 +1,36 @@
+// The check of a table, which leaves the plan that the walks use.
+ghost use mathlib.Core.Path.{_≡_};
+ghost use lib.ListN.{replicate};
+ghost use Rattle.cases.specs.Prepared.{Prepared};
+use grammar::plan::weigh_all;
+use grammar::refusal::Refusal;
+use grammar::refusal::Verdict;
+
+const MOST_NODES: usize = 256;
+
+const MOST_WORDS: usize = 4096;
+
+// "The whole check: word and pool lengths (1, node 0); then nodes rising ..; then cycles."
+pub fn prepare(table: &[u64], pool: &[u64], plan: &mut [u64; 1024]) -> Verdict
+    requires { ⌜ now plan ≡ replicate 1024 0 ⌝ }
+    ensures { λ r. ⌜ Prepared (now (table .entry)) (now (pool .entry)) (now (plan .exit)) r ⌝ }
+{
+    let count = table.len() / 3;
+    if table.len() != 3 * count {
+        return Verdict::Refused(Refusal::Length, 0);
+    }
+    if count < 1 {
+        return Verdict::Refused(Refusal::Length, 0);
+    }
+    if MOST_NODES < count {
+        return Verdict::Refused(Refusal::Length, 0);
+    }
+    if MOST_WORDS < pool.len() {
+        return Verdict::Refused(Refusal::Length, 0);
+    }
+    let v = weigh_all(table, pool, plan);
+    match v {
+        Verdict::Refused(r, k) => Verdict::Refused(r, k),
+        Verdict::Accepted => cycles::judge(table, pool, plan),
+    }
+}

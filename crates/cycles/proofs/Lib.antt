@@ -1,0 +1,3 @@
+-- What the proofs of more than one function cite, and what the check's verdict means.
+pub mod Steps
+pub mod Table

@@ -1,0 +1,14 @@
+-- `cycles::unguarded` asks the agains alone: the lowest node of a cycle is one.
+-- Assumes nothing.
+use borrow.Author.Needs.{needs}
+use mathlib.Core.Bool.{false}
+use Rattle.cycles.proofs.Table.{lowest-again}
+use Rattle.cycles.proofs.unguarded.Statement.{statement}
+use Rattle.cycles.proofs.unguarded.Tie as tie
+
+pub unguarded-spec : {M : Type 1} → statement M
+unguarded-spec =
+    tie.close
+    (tie.spec
+    (λ c κs. search needs)
+    (λ c. lowest-again false (c .before .before .before .pre) (c .lowest-of-kind .ensures)))

@@ -1,0 +1,1 @@
+-- The definitions are the grammar's: `Rattle.grammar.specs.Steps` and `Verdict`.
