@@ -1,6 +1,7 @@
 -- Sizes. 01: "Sizes are a whole number up to 2^62, or endless."
 --   Size               finite s, or endless
 --   Below n s          n is one of the numbers of a node of size s
+--   Some s             there is such a number
 --   plus, times, less  "Endless plus, or times, anything is endless; endless less one is endless."
 --   sizeOf, codeOf     a size in one machine word
 --   measured           a size's word, or past 2^62
@@ -24,6 +25,11 @@ Below n endless = Unit {0}
 abbrev pub below : ℕ → Size → Bool
 below n (finite s) = ltb n s
 below n endless = true
+
+-- a size that is not 0
+abbrev pub Some : Size → Type 0
+Some (finite s) = 0 < s
+Some endless = Unit {0}
 
 unfoldable pub plus : Size → Size → Size
 plus (finite s) (finite t) = finite (s + t)

@@ -14,12 +14,11 @@ use lib.Arith.{digits-lt, digits-div, digits-mod}
 use lib.Dec.{ltb}
 use borrow.Author.Tests.{ltb-true, ltb-false, lt-ltb, le-ltb}
 use Rattle.numbers.specs.Pick.{pick}
-use Rattle.numbers.specs.Size.{Size, finite, endless, Below, times}
+use Rattle.numbers.specs.Size.{Size, finite, endless, Below, Some, times}
 use Rattle.numbers.specs.Root.{root}
 use Rattle.numbers.specs.Cons.{pair, edge, split, join}
 use Rattle.numbers.specs.declared.cons.Pair.{Pair}
 use Rattle.numbers.proofs.Tests.{pick-by}
-use Rattle.numbers.proofs.size.Laws.{Some}
 use Rattle.numbers.proofs.root.Laws.{root-is, root-of}
 
 abbrev PairBelow : Size → Size → Pair → Type 0

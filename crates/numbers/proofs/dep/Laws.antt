@@ -17,12 +17,11 @@ use lib.Dec.{ltb}
 use lib.ListN.{length, getD, take}
 use borrow.Author.Tests.{ltb-true, ltb-false, lt-ltb, le-ltb}
 use Rattle.numbers.specs.Pick.{pick}
-use Rattle.numbers.specs.Size.{Size, finite, endless, Below}
+use Rattle.numbers.specs.Size.{Size, finite, endless, Below, Some}
 use Rattle.numbers.specs.Cons.{pair}
 use Rattle.numbers.specs.Dep.{Seconds, finites, endlesses, total, size, firsts, second, afterFirst, inTurn, split, join}
 use Rattle.numbers.specs.declared.cons.Pair.{Pair}
 use Rattle.numbers.proofs.Tests.{pick-by}
-use Rattle.numbers.proofs.size.Laws.{Some}
 
 -- a first number, and a number of its second
 abbrev pub PairBelow : Seconds → Pair → Type 0

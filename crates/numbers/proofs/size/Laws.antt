@@ -1,5 +1,5 @@
 -- Sizes, and their words.
---   Some, below-some      a size that is not 0
+--   below-some            a size that has a number is not 0
 --   below-is              the test and the statement agree
 --   by-size               what holds of the size of a word, whichever it is
 --   sized-finite, sized-endless, sized-code    what size a word is
@@ -11,12 +11,8 @@ use native.Mathlib.Omega.{arith}
 use lib.Dec.{ltb}
 use borrow.Author.Tests.{lt-ltb, le-ltb, ltb-true, ltb-false}
 use Rattle.numbers.specs.Pick.{pick}
-use Rattle.numbers.specs.Size.{Size, finite, endless, Below, below, sizeOf, codeOf}
+use Rattle.numbers.specs.Size.{Size, finite, endless, Below, Some, below, sizeOf, codeOf}
 use Rattle.numbers.proofs.Tests.{pick-by}
-
-abbrev pub Some : Size → Type 0
-Some (finite s) = 0 < s
-Some endless = Unit {0}
 
 pub below-some : (n : ℕ) (s : Size) → Below n s → Some s
 below-some n (finite s) h = omega arith

@@ -1,0 +1,2 @@
+-- What the proofs of more than one call cite.
+mod Fields

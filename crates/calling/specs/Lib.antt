@@ -1,0 +1,4 @@
+-- What the contracts of the calls from a shell cite.
+pub mod Line
+pub mod Page
+pub mod State

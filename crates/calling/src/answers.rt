@@ -1,0 +1,18 @@
+// What more than one call prints.
+use super::page::PAGE_BYTES;
+use super::page::put_number;
+use super::page::put_text;
+use grammar::refusal::Refusal;
+use grammar::refusal::number_of;
+
+pub fn unreadable(page: &mut [u8; PAGE_BYTES], used: usize) -> usize {
+    put_text(page, used, b"unreadable\n")
+}
+
+// The line is left open, since some calls print more of a refusal.
+pub fn refused(page: &mut [u8; PAGE_BYTES], used: usize, refusal: Refusal, node: u64) -> usize {
+    let said = put_text(page, used, b"refused ");
+    let numbered = put_number(page, said, number_of(refusal));
+    let placed = put_text(page, numbered, b" at ");
+    put_number(page, placed, node)
+}

@@ -1,0 +1,76 @@
+// Every public call from a shell: the lines of an input, and what each call prints. Nothing is
+// decided here: words are lent, a call is made, and what came back is printed.
+mod answers;
+mod calls;
+mod check;
+mod line;
+mod page;
+mod state;
+
+ghost use Prim.Native.Nat.{_<_};
+ghost use lib.ListN.{length};
+ghost use Rattle.calling.specs.State.{Within};
+use lines::ascii::LF;
+use page::PAGE_BYTES;
+use state::MOST_POOL_WORDS;
+use state::MOST_TABLE_WORDS;
+use state::State;
+
+// A longer input is unreadable as a whole.
+pub const MOST_BYTES: usize = 4194304;
+
+// Answers each line of an input on standard output.
+pub fn answer_all(text: &[u8]) {
+    let mut page = [0u8; PAGE_BYTES];
+    if !readable(text) {
+        let waiting = answers::unreadable(&mut page, 0);
+        page::flush(&page, waiting);
+        return;
+    }
+    let mut table = [0u64; MOST_TABLE_WORDS];
+    let mut pool = [0u64; MOST_POOL_WORDS];
+    let mut state = state::without_table(0, 0);
+    while state.at < text.len() {
+        state = answer_line(text, state, &mut table, &mut pool, &mut page);
+    }
+    page::flush(&page, state.used);
+}
+
+// An input of no bytes has no line that could lack its LF.
+fn readable(text: &[u8]) -> bool {
+    let size = text.len();
+    if MOST_BYTES < size {
+        return false;
+    }
+    if size == 0 {
+        return true;
+    }
+    text[size - 1] == LF
+}
+
+// The line at the state's place, with the two after it where it is a `table`.
+fn answer_line(
+    text: &[u8],
+    state: State,
+    table: &mut [u64; MOST_TABLE_WORDS],
+    pool: &mut [u64; MOST_POOL_WORDS],
+    page: &mut [u8; PAGE_BYTES],
+) -> State
+    requires { ⌜ Within (now text) state × (state .at < length (now text)) ⌝ }
+    ensures { λ r. ⌜ Within (now (text .entry)) r × (state .at < r .at) ⌝ }
+{
+    let at = state.at;
+    let next = line::after(text, at);
+    let line = &text[at..next];
+    if line::same(line, b"table\n") {
+        return state::take_table(text, next, state.used, table, pool, page);
+    }
+    let used = calls::answer(line, state, table, pool, page);
+    State {
+        at: next,
+        used,
+        known: state.known,
+        table: state.table,
+        pool: state.pool,
+    }
+}

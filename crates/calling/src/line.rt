@@ -1,0 +1,52 @@
+// Lines of bytes and the words that they start with.
+ghost use Prim.Native.Nat.{_≤_};
+ghost use lib.ListN.{length};
+ghost use Rattle.calling.specs.Line.{After};
+use lines::ascii::LF;
+use lines::ascii::SPACE;
+
+// The place after the line that starts at `at`.
+pub fn after(text: &[u8], at: usize) -> usize
+    requires { ⌜ at ≤ length (now text) ⌝ }
+    ensures { λ r. ⌜ After (now (text .entry)) at r ⌝ }
+{
+    let mut i = at;
+    while i < text.len() {
+        if text[i] == LF {
+            return i + 1;
+        }
+        i += 1;
+    }
+    i
+}
+
+// How many bytes stand before the first space, or before the line's LF.
+pub fn word_size(line: &[u8]) -> usize
+    ensures { λ r. ⌜ r ≤ length (now (line .entry)) ⌝ }
+{
+    let mut i = 0;
+    while i < line.len() {
+        if line[i] == SPACE {
+            return i;
+        }
+        if line[i] == LF {
+            return i;
+        }
+        i += 1;
+    }
+    i
+}
+
+pub fn same(a: &[u8], b: &[u8]) -> bool {
+    if a.len() != b.len() {
+        return false;
+    }
+    let mut i = 0;
+    while i < a.len() {
+        if a[i] != b[i] {
+            return false;
+        }
+        i += 1;
+    }
+    true
+}

@@ -1,0 +1,49 @@
+// Bytes to print, gathered on a lent page and written out when it is full. What puts more on it is
+// told how many bytes wait there, and answers how many wait then.
+ghost use Prim.Native.Nat.{_<_};
+ghost use Rattle.calling.specs.Page.{pageBytes};
+use libc::STDOUT_FILENO;
+
+pub const PAGE_BYTES: usize = 65536;
+
+// As many as the largest word has.
+const MOST_DIGITS: usize = 20;
+
+pub fn put_text(page: &mut [u8; PAGE_BYTES], used: usize, text: &[u8]) -> usize {
+    let mut waiting = used;
+    let mut i = 0;
+    while i < text.len() {
+        let at = place(page, waiting);
+        page[at] = text[i];
+        waiting = at + 1;
+        i += 1;
+    }
+    waiting
+}
+
+pub fn put_number(page: &mut [u8; PAGE_BYTES], used: usize, n: u64) -> usize {
+    let mut digits = [0u8; MOST_DIGITS];
+    let size = io::decimal(n, &mut digits);
+    put_text(page, used, &digits[..size])
+}
+
+// Writes out what waits.
+pub fn flush(page: &[u8; PAGE_BYTES], used: usize) {
+    let bytes: &[u8] = page;
+    if bytes.len() <= used {
+        io::write_all(STDOUT_FILENO, bytes);
+        return;
+    }
+    io::write_all(STDOUT_FILENO, &bytes[..used]);
+}
+
+// Where the next byte goes: to the front again once a full page is written out.
+fn place(page: &[u8; PAGE_BYTES], used: usize) -> usize
+    ensures { λ r. ⌜ r < pageBytes ⌝ }
+{
+    if used < PAGE_BYTES {
+        return used;
+    }
+    flush(page, used);
+    0
+}

@@ -1,0 +1,8 @@
+-- What the proofs of the walks cite.
+pub mod Deps
+pub mod Seconds
+pub mod Visits
+pub mod Parts
+pub mod Fills
+pub mod Walks
+pub mod Next

@@ -1,0 +1,7 @@
+-- Document 01, "From a number to cells": what a visit does with a number, and the walk.
+pub mod Grammar
+pub mod Visit
+pub mod Walk
+pub mod Room
+pub mod Filled
+pub mod Good

@@ -1,0 +1,4 @@
+// The walks over a plan: from a number to cells, and from cells to a number.
+pub mod fill;
+pub mod step;
+pub mod tally;
