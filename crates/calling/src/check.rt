@@ -5,8 +5,8 @@ use super::page::PAGE_BYTES;
 use super::page::put_text;
 use grammar::refusal::Verdict;
 
-// The rest of a line that has no fields is the LF alone.
-const NO_FIELDS: usize = 1;
+// The length of what is left of a line without fields.
+const LF_ALONE: usize = 1;
 
 pub fn answer(
     rest: &[u8],
@@ -15,7 +15,7 @@ pub fn answer(
     page: &mut [u8; PAGE_BYTES],
     used: usize,
 ) -> usize {
-    if rest.len() != NO_FIELDS {
+    if rest.len() != LF_ALONE {
         return unreadable(page, used);
     }
     match cases::check(table, pool) {

@@ -1,5 +1,5 @@
-// Bytes to print, gathered on a lent page and written out when it is full. What puts more on it is
-// told how many bytes wait there, and answers how many wait then.
+// Bytes to print, gathered on a lent page so that no number costs a system call of its own. What
+// puts more on the page is told how many bytes wait there, and answers how many wait then.
 ghost use Prim.Native.Nat.{_<_};
 ghost use Rattle.calling.specs.Page.{pageBytes};
 use libc::STDOUT_FILENO;

@@ -10,7 +10,7 @@ fn main() {
     answer_input(&mut room);
 }
 
-// A function of its own, so that no proof has the room's bytes at hand, one by one.
+// The room is lent, and not this function's own: of a local array a proof writes out every byte.
 fn answer_input(room: &mut [u8; ROOM]) {
     let size = io::read_full(STDIN_FILENO, room);
     let text: &[u8] = room;

@@ -1,6 +1,9 @@
 // The public calls on one case. No call relies on an earlier check: each checks its table first.
 mod prepared;
+mod writing;
 
+pub use writing::Written;
+pub use writing::write;
 ghost use mathlib.Core.Path.{_≡_};
 ghost use Rattle.grammar.specs.Verdict.{verdict};
 use grammar::refusal::Verdict;

@@ -79,6 +79,7 @@ plan-none t plan e = rw e (record {
   kind = λ k l. absurd (not-suc-le-zero l);
   a = λ k l. absurd (not-suc-le-zero l);
   b = λ k l. absurd (not-suc-le-zero l);
+  blank = λ k l. (blank 1024 (4 * k), blank 1024 (4 * k + 1), blank 1024 (4 * k + 2));
   size = λ k. blank 1024 (4 * k + 3);
   small = λ k. omega arith;
 })
@@ -105,6 +106,9 @@ module _ {t : List ℕ} {zs : List Size} {n : ℕ} {plan : List ℕ} (h : Planne
       by true = m
       by false = h .small k
 
+  kept : (i : ℕ) → 4 * n + 3 < i → getD plan i 0 ≡ 0 → getD (rowed plan n (kindOf t n) (aOf t n) (bOf t n) w) i 0 ≡ 0
+  kept i q z = row-other plan n (kindOf t n) (aOf t n) (bOf t n) w i (λ x. omega arith) (λ x. omega arith) (λ x. omega arith) (λ x. omega arith) ∙ z
+
   pub plan-more : Planned t (zs ++ (s ∷ [])) (n + 1) (rowed plan n (kindOf t n) (aOf t n) (bOf t n) w)
   unfolding next
   plan-more = record {
@@ -116,6 +120,7 @@ module _ {t : List ℕ} {zs : List Size} {n : ℕ} {plan : List ℕ} (h : Planne
         (λ other. row-other plan n (kindOf t n) (aOf t n) (bOf t n) w (4 * k + 1) (λ x. omega arith) (λ x. other (omega arith)) (λ x. omega arith) (λ x. omega arith) ∙ h .a k (omega arith)) (same? k n);
     b = λ k q. ⊎-elim (λ same. rw same (row-b plan n (kindOf t n) (aOf t n) (bOf t n) w inside))
         (λ other. row-other plan n (kindOf t n) (aOf t n) (bOf t n) w (4 * k + 2) (λ x. omega arith) (λ x. omega arith) (λ x. other (omega arith)) (λ x. omega arith) ∙ h .b k (omega arith)) (same? k n);
+    blank = λ k q. let (x, y, z) = h .blank k (omega arith) in (kept (4 * k) (omega arith) x, kept (4 * k + 1) (omega arith) y, kept (4 * k + 2) (omega arith) z);
     size = sizes-at;
     small = smalls;
   }

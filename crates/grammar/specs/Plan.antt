@@ -49,6 +49,7 @@ pub record Planned (t : List ℕ) (zs : List Size) (n : ℕ) (plan : List ℕ) :
   pub kind : (k : ℕ) → k < n → getD plan (4 * k) 0 ≡ kindOf t k
   pub a : (k : ℕ) → k < n → getD plan (4 * k + 1) 0 ≡ aOf t k
   pub b : (k : ℕ) → k < n → getD plan (4 * k + 2) 0 ≡ bOf t k
+  pub blank : (k : ℕ) → n ≤ k → (getD plan (4 * k) 0 ≡ 0) × (getD plan (4 * k + 1) 0 ≡ 0) × (getD plan (4 * k + 2) 0 ≡ 0)
   pub size : (k : ℕ) → getD plan (4 * k + 3) 0 ≡ codeOf (sizeAt zs k)
   pub small : (k : ℕ) → Small (sizeAt zs k)
 

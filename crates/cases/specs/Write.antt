@@ -1,0 +1,81 @@
+-- What `write` promises. 01: "Each call checks the table first, then 11, then 12, then walks; of 13 and 14 the one first met in walk order is given."
+--   writes     the answer for a table, its pool, a start node, a number and a room
+--   Wrote      the answer and the buffer's last words, for every input
+--   written    01's number, node and count of an answer
+-- Assumes nothing.
+use mathlib.Core.Path.{_≡_}
+use mathlib.Core.Bool.{Bool, true, false, _&&_}
+use mathlib.Core.List.{List}
+use Prim.Native.Nat.{ℕ, _-_, _^_, min}
+use lib.Dec.{ltb}
+use lib.ListN.{length}
+use Rattle.numbers.specs.Pick.{pick}
+use Rattle.numbers.specs.Size.{Size, below}
+use Rattle.grammar.specs.Table.{nodes}
+use Rattle.grammar.specs.Sizes.{sizeAt, sizes}
+use Rattle.grammar.specs.Refusals.{numberOf}
+use Rattle.grammar.specs.Verdict.{verdict}
+use Rattle.grammar.specs.declared.refusal.Refusal.the-variants.{NoSuchStart, NoSuchNumber, TooDeep, NoRoom}
+use Rattle.grammar.specs.declared.refusal.Verdict.{Verdict}
+use Rattle.grammar.specs.declared.refusal.Verdict.the-variants.{Accepted, Refused as Refuses}
+use Rattle.walk.specs.Grammar.{grammarOf}
+use Rattle.walk.specs.Walk.{walk, cells, depth}
+use Rattle.walk.specs.Room.{tallied, most}
+use Rattle.walk.specs.Filled.{over}
+use Rattle.walk.specs.declared.tally.RoomLeft.{RoomLeft}
+use Rattle.walk.specs.declared.tally.RoomLeft.the-variants.{Left, TooDeep as Deep, NoRoom as Full}
+use Rattle.cases.specs.declared.writing.Written.{Written}
+use Rattle.cases.specs.declared.writing.Written.the-variants.{Done, Refused}
+
+-- "Numbers asked for are below 2^62 and below the size."
+abbrev pub asked : Size → ℕ → Bool
+asked s n = below n s && ltb n (2 ^ 62)
+
+-- "a longer buffer to write into counts as that long for one case"
+abbrev pub roomFor : ℕ → ℕ
+roomFor room = min room most
+
+-- what is left of the room says how many cells there are
+abbrev pub outcome : ℕ → RoomLeft → Written
+outcome room (Left rest) = Done (room - rest)
+outcome room Deep = Refused TooDeep 0
+outcome room Full = Refused NoRoom 0
+
+abbrev pub judged : Verdict → Written → Written
+judged Accepted w = w
+judged (Refuses r k) w = Refused r k
+
+-- 11, then 12, then the walk
+unfoldable pub walks : List ℕ → List ℕ → ℕ → ℕ → ℕ → Written
+walks t p i n room =
+    pick (ltb i (nodes t))
+    (pick (asked (sizeAt (sizes t p) i) n) (outcome (roomFor room) (tallied (roomFor room) (walk (grammarOf t p) depth i n)))
+    (Refused NoSuchNumber 0))
+    (Refused NoSuchStart 0)
+
+unfoldable pub writes : List ℕ → List ℕ → ℕ → ℕ → ℕ → Written
+writes t p i n room = judged (verdict t p) (walks t p i n room)
+
+-- "no lent word changes"; "Success writes the case's cells only, the rest of the buffer keeps its bytes"
+abbrev pub leaves : Written → List ℕ → List ℕ → List ℕ
+leaves (Done k) cs old = over cs old
+leaves (Refused r k) cs old = old
+
+pub record Wrote (t p : List ℕ) (i n : ℕ) (old last : List ℕ) (r : Written) : Type 0 where
+  pub is : r ≡ writes t p i n (length old)
+  pub holds : last ≡ leaves r (cells (walk (grammarOf t p) depth i n)) old
+
+-- of an accepted table
+pub record WrotePlanned (t p : List ℕ) (i n : ℕ) (old last : List ℕ) (r : Written) : Type 0 where
+  pub is : r ≡ walks t p i n (length old)
+  pub holds : last ≡ leaves r (cells (walk (grammarOf t p) depth i n)) old
+
+-- "A refusal returns its number, a node for 1 to 10 (0 for every other refusal), and 0 for all counts"
+pub record WriteAnswer : Type 0 where
+  pub number : ℕ
+  pub node : ℕ
+  pub cells : ℕ
+
+unfoldable pub written : Written → WriteAnswer
+written (Done k) = record { number = 0; node = 0; cells = k }
+written (Refused r k) = record { number = numberOf r; node = k; cells = 0 }
