@@ -51,7 +51,7 @@ pub fn join(s: u64, t: u64, p: Part) -> Joined
 }
 
 // Number m of part b, 0 or 1, where the other part has size u.
-fn turned(b: u64, u: u64, m: u64) -> Joined
+pub fn turned(b: u64, u: u64, m: u64) -> Joined
     requires { ⌜ b ≤ 1 ⌝ }
     ensures { λ r. ⌜ r ≡ capped (turn b (sizeOf u) m) ⌝ }
 {

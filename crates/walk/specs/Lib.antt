@@ -5,3 +5,6 @@ pub mod Walk
 pub mod Room
 pub mod Filled
 pub mod Good
+pub mod Reading
+pub mod Got
+pub mod Look

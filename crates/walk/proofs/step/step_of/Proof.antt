@@ -4,7 +4,8 @@ use borrow.Author.Needs.{needs}
 use native.Mathlib.Omega.{arith}
 use Rattle.grammar.specs.Node.{nodeOf}
 use Rattle.walk.specs.Visit.{stepOf}
-use Rattle.walk.proofs.Visits.{in-plan, pool-in, or-a, or-b, cons-a, cons-b, cons-some-a, cons-some-b, dep-ready, cell-of}
+use Rattle.walk.proofs.Nodes.{in-plan, or-a, or-b, cons-a, cons-b, cons-some-a, cons-some-b}
+use Rattle.walk.proofs.Visits.{pool-in, dep-ready, cell-of}
 use Rattle.walk.proofs.step.step_of.Statement.{statement}
 use Rattle.walk.proofs.step.step_of.Tie as tie
 
@@ -13,9 +14,9 @@ unfolding nodeOf stepOf
 step-of-spec =
     tie.close
     (tie.spec
-    (λ c. omega (arith, in-plan (c .before .pre .0)))
-    (λ c. omega (arith, in-plan (c .before .pre .0)))
-    (λ c. omega (arith, in-plan (c .before .pre .0)))
+    (λ c. omega (arith, in-plan (c .before .pre .0 .walks) (c .before .pre .0 .node)))
+    (λ c. omega (arith, in-plan (c .before .pre .0 .walks) (c .before .pre .0 .node)))
+    (λ c. omega (arith, in-plan (c .before .pre .0 .walks) (c .before .pre .0 .node)))
     (λ c. search needs)
     (λ c. search needs)
     (λ c. search needs)
@@ -27,8 +28,8 @@ step-of-spec =
     (λ c. omega (arith, pool-in (c .before .before .before .before .before .pre .0) (c .match .keys1)))
     (λ c. omega (arith, pool-in (c .before .before .before .before .before .pre .0) (c .match .keys1)))
     (λ c. pool-in (c .before .before .before .before .before .before .pre .0) (c .before .match .keys1))
-    (λ c κs. (or-a (c .before .before .before .before .before .pre .0) (c .match .keys3), or-b (c .before .before .before .before .before .pre .0) (c .match .keys3)))
-    (λ c κs. ((cons-a (c .before .before .before .before .before .pre .0) (c .match .keys4), cons-b (c .before .before .before .before .before .pre .0) (c .match .keys4)), (cons-some-a (c .before .before .before .before .before .pre .0) (c .match .keys4), cons-some-b (c .before .before .before .before .before .pre .0) (c .match .keys4))))
+    (λ c κs. (or-a (c .before .before .before .before .before .pre .0 .walks) (c .before .before .before .before .before .pre .0 .node) (c .match .keys3), or-b (c .before .before .before .before .before .pre .0 .walks) (c .before .before .before .before .before .pre .0 .node) (c .match .keys3)))
+    (λ c κs. ((cons-a (c .before .before .before .before .before .pre .0 .walks) (c .before .before .before .before .before .pre .0 .node) (c .match .keys4), cons-b (c .before .before .before .before .before .pre .0 .walks) (c .before .before .before .before .before .pre .0 .node) (c .match .keys4)), (cons-some-a (c .before .before .before .before .before .pre .0 .walks) (c .before .before .before .before .before .pre .0 .node) (c .match .keys4), cons-some-b (c .before .before .before .before .before .pre .0 .walks) (c .before .before .before .before .before .pre .0 .node) (c .match .keys4))))
     (λ c κs. dep-ready (c .before .before .before .before .before .pre .0) (c .match .keys5))
     (λ c κs. search needs)
     (λ c. rw (c .before .match .keys1))
