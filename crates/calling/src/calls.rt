@@ -3,20 +3,27 @@
 ghost use Prim.Native.Nat.{_≤_};
 ghost use lib.ListN.{length};
 use super::answers::unreadable;
+use super::buffer::MOST_ROOM;
 use super::check;
+use super::line::MOST_FIELDS;
 use super::line::same;
 use super::line::word_size;
 use super::page::PAGE_BYTES;
 use super::state::State;
+use super::write;
 
 enum Call {
     Check,
+    Write,
     Unknown,
 }
 
 fn call_of(word: &[u8]) -> Call {
     if same(word, b"check") {
         return Call::Check;
+    }
+    if same(word, b"write") {
+        return Call::Write;
     }
     Call::Unknown
 }
@@ -27,6 +34,8 @@ pub fn answer(
     state: State,
     table: &[u64],
     pool: &[u64],
+    fields: &mut [u64; MOST_FIELDS],
+    buffer: &mut [u64; MOST_ROOM],
     page: &mut [u8; PAGE_BYTES],
 ) -> usize
     requires { ⌜ (state .table ≤ length (now table)) × (state .pool ≤ length (now pool)) ⌝ }
@@ -44,6 +53,8 @@ pub fn answer(
         &line[size..],
         &table[..table_words],
         &pool[..pool_words],
+        fields,
+        buffer,
         page,
         used,
     )
@@ -54,11 +65,14 @@ fn answer_call(
     rest: &[u8],
     table: &[u64],
     pool: &[u64],
+    fields: &mut [u64; MOST_FIELDS],
+    buffer: &mut [u64; MOST_ROOM],
     page: &mut [u8; PAGE_BYTES],
     used: usize,
 ) -> usize {
     match call {
         Call::Check => check::answer(rest, table, pool, page, used),
+        Call::Write => write::answer(rest, table, pool, fields, buffer, page, used),
         Call::Unknown => unreadable(page, used),
     }
 }

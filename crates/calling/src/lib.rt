@@ -1,15 +1,20 @@
 // Every public call from a shell: the lines of an input, and what each call prints. Nothing is
 // decided here: words are lent, a call is made, and what came back is printed.
 mod answers;
+mod buffer;
 mod calls;
 mod check;
 mod line;
 mod page;
 mod state;
+mod write;
 
 ghost use Prim.Native.Nat.{_<_};
 ghost use lib.ListN.{length};
 ghost use Rattle.calling.specs.State.{Within};
+use buffer::MOST_ROOM;
+use libc::STDIN_FILENO;
+use line::MOST_FIELDS;
 use lines::ascii::LF;
 use page::PAGE_BYTES;
 use state::MOST_POOL_WORDS;
@@ -17,10 +22,21 @@ use state::MOST_TABLE_WORDS;
 use state::State;
 
 // A longer input is unreadable as a whole.
-pub const MOST_BYTES: usize = 4194304;
+const MOST_BYTES: usize = 4194304;
+
+// One byte more than the longest input, to see that an input is longer.
+pub const INPUT_ROOM: usize = MOST_BYTES + 1;
+
+// Answers standard input on standard output. The room is lent, and not this function's own: of a
+// local array a proof writes out every byte.
+pub fn answer_input(room: &mut [u8; INPUT_ROOM]) {
+    let size = io::read_full(STDIN_FILENO, room);
+    let text: &[u8] = room;
+    answer_all(&text[..size]);
+}
 
 // Answers each line of an input on standard output.
-pub fn answer_all(text: &[u8]) {
+fn answer_all(text: &[u8]) {
     let mut page = [0u8; PAGE_BYTES];
     if !readable(text) {
         let waiting = answers::unreadable(&mut page, 0);
@@ -29,9 +45,19 @@ pub fn answer_all(text: &[u8]) {
     }
     let mut table = [0u64; MOST_TABLE_WORDS];
     let mut pool = [0u64; MOST_POOL_WORDS];
+    let mut fields = [0u64; MOST_FIELDS];
+    let mut buffer = [0u64; MOST_ROOM];
     let mut state = state::without_table(0, 0);
     while state.at < text.len() {
-        state = answer_line(text, state, &mut table, &mut pool, &mut page);
+        state = answer_line(
+            text,
+            state,
+            &mut table,
+            &mut pool,
+            &mut fields,
+            &mut buffer,
+            &mut page,
+        );
     }
     page::flush(&page, state.used);
 }
@@ -54,6 +80,8 @@ fn answer_line(
     state: State,
     table: &mut [u64; MOST_TABLE_WORDS],
     pool: &mut [u64; MOST_POOL_WORDS],
+    fields: &mut [u64; MOST_FIELDS],
+    buffer: &mut [u64; MOST_ROOM],
     page: &mut [u8; PAGE_BYTES],
 ) -> State
     requires { ⌜ Within (now text) state × (state .at < length (now text)) ⌝ }
@@ -65,7 +93,7 @@ fn answer_line(
     if line::same(line, b"table\n") {
         return state::take_table(text, next, state.used, table, pool, page);
     }
-    let used = calls::answer(line, state, table, pool, page);
+    let used = calls::answer(line, state, table, pool, fields, buffer, page);
     State {
         at: next,
         used,

@@ -1,9 +1,15 @@
-// Lines of bytes and the words that they start with.
+// Lines of bytes: the word that a line starts with, and where the fields behind it stand.
 ghost use Prim.Native.Nat.{_≤_};
 ghost use lib.ListN.{length};
 ghost use Rattle.calling.specs.Line.{After};
 use lines::ascii::LF;
 use lines::ascii::SPACE;
+
+// Where the first field is in what follows the word: a space stands before it.
+pub const FIELDS_AT: usize = 1;
+
+// A row has at most 70,000 words, and START and ROOM before it.
+pub const MOST_FIELDS: usize = 70002;
 
 // The place after the line that starts at `at`.
 pub fn after(text: &[u8], at: usize) -> usize

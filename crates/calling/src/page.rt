@@ -27,6 +27,18 @@ pub fn put_number(page: &mut [u8; PAGE_BYTES], used: usize, n: u64) -> usize {
     put_text(page, used, &digits[..size])
 }
 
+// Each number after a space.
+pub fn put_numbers(page: &mut [u8; PAGE_BYTES], used: usize, numbers: &[u64]) -> usize {
+    let mut waiting = used;
+    let mut i = 0;
+    while i < numbers.len() {
+        let parted = put_text(page, waiting, b" ");
+        waiting = put_number(page, parted, numbers[i]);
+        i += 1;
+    }
+    waiting
+}
+
 // Writes out what waits.
 pub fn flush(page: &[u8; PAGE_BYTES], used: usize) {
     let bytes: &[u8] = page;

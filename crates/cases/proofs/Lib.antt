@@ -1,5 +1,6 @@
--- What the proofs of the calls cite, what the check's verdict means, and worked cases.
+-- What the proofs of the calls cite, what the check's verdict means, what is known by an answer, and worked cases.
 pub mod Preparing
 pub mod Walking
 pub mod Meaning
+pub mod Outcomes
 pub mod Worked

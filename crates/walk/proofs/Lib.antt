@@ -1,6 +1,10 @@
 -- What the proofs of the walks cite.
 pub mod Deps
+pub mod Sums
 pub mod Seconds
+pub mod Chosen
+pub mod Leads
+pub mod Takes
 pub mod Nodes
 pub mod Visits
 pub mod Parts

@@ -26,8 +26,20 @@ use Rattle.walk.proofs.Seconds.{else-finite, else-endless}
 pub some-word : (w : ℕ) → Some (sizeOf w) → 0 < w
 some-word w = by-size (λ s. Some s → 0 < w) w (λ l h. h) (λ l h. omega arith)
 
-few-word : (w : ℕ) → few (sizeOf w) ≡ true → countOf (sizeOf w) ≡ w
+pub few-word : (w : ℕ) → few (sizeOf w) ≡ true → countOf (sizeOf w) ≡ w
 few-word w = by-size (λ s. few s ≡ true → countOf s ≡ w) w (λ l h. refl) (λ l h. absurd (false≢true h))
+
+-- seconds that are alike are as the first of them
+module _ (plan p : List ℕ) (b m : ℕ) (in-p : b + m ≤ length p) (some : 0 < m) where
+  pub run-not-endless : headSize plan p b < 2 ^ 63 → false ≡ allEndless (sizeIn plan) (take m (drop b p))
+  run-not-endless h = run-fails p b m in-p (λ c. isEndless (sizeIn plan c)) 0 some (rw add-zero (finite-word (headSize plan p b) h))
+
+  module _ (alike : (allFinite (sizeIn plan) (take m (drop b p)) || allEndless (sizeIn plan) (take m (drop b p))) ≡ true) where
+    pub run-finite : headSize plan p b < 2 ^ 63 → allFinite (sizeIn plan) (take m (drop b p)) ≡ true
+    run-finite h = else-finite _ _ alike (sym (run-not-endless h))
+
+    pub run-endless : 2 ^ 63 ≤ headSize plan p b → allEndless (sizeIn plan) (take m (drop b p)) ≡ true
+    run-endless h = else-endless _ _ alike (sym (run-fails p b m in-p (λ c. not (isEndless (sizeIn plan c))) 0 some (rw (add-zero, endless-word (headSize plan p b) h))))
 
 abbrev pub kindAt : List ℕ → ℕ → ℕ
 kindAt plan i = getD plan (4 * i) 0
@@ -108,13 +120,10 @@ module _ {plan p : List ℕ} {i : ℕ} (w : Walkable plan p) (l : i < w .count) 
     size-is = rw (← count-is) (fits-at 6 e .2)
 
     pub all-finite : headSize plan p (bAt plan i) < 2 ^ 63 → allFinite (sizeIn plan) (take (firsts plan (aAt plan i)) (drop (bAt plan i) p)) ≡ true
-    all-finite h =
-        else-finite _ _ alike (sym (run-fails p (bAt plan i) (firsts plan (aAt plan i)) in-pool (λ c. isEndless (sizeIn plan c)) 0 some-is (rw add-zero (finite-word (headSize plan p (bAt plan i)) h))))
+    all-finite = run-finite plan p (bAt plan i) (firsts plan (aAt plan i)) in-pool some-is alike
 
     pub all-endless : 2 ^ 63 ≤ headSize plan p (bAt plan i) → allEndless (sizeIn plan) (take (firsts plan (aAt plan i)) (drop (bAt plan i) p)) ≡ true
-    all-endless h =
-        else-endless _ _ alike
-        (sym (run-fails p (bAt plan i) (firsts plan (aAt plan i)) in-pool (λ c. not (isEndless (sizeIn plan c))) 0 some-is (rw (add-zero, endless-word (headSize plan p (bAt plan i)) h))))
+    all-endless = run-endless plan p (bAt plan i) (firsts plan (aAt plan i)) in-pool some-is alike
 
     pub long : length (take (firsts plan (aAt plan i)) (drop (bAt plan i) p)) ≡ firsts plan (aAt plan i)
     long = run-long p (bAt plan i) (firsts plan (aAt plan i)) in-pool

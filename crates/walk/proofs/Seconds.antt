@@ -19,7 +19,6 @@ use Rattle.grammar.proofs.Tests.{and-left, and-right}
 use Rattle.walk.specs.Visit.{counts, secondsOf}
 
 counts-long : (z : ℕ → Size) (cs : List ℕ) → length (counts z cs) ≡ length cs
-unfolding length
 counts-long z [] = refl
 counts-long z (c ∷ cs) = ap suc (counts-long z cs)
 
@@ -40,7 +39,7 @@ unending : (s : Size) → isEndless s ≡ true → s ≡ endless
 unending (finite s) e = absurd (false≢true e)
 unending endless e = refl
 
-finite-total : (z : ℕ → Size) (cs : List ℕ) → allFinite z cs ≡ true → finite (Dep.total (counts z cs)) ≡ total z cs
+pub finite-total : (z : ℕ → Size) (cs : List ℕ) → allFinite z cs ≡ true → finite (Dep.total (counts z cs)) ≡ total z cs
 unfolding every total Dep.total plus
 finite-total z [] e = refl
 finite-total z (c ∷ cs) e =

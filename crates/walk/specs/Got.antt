@@ -3,15 +3,21 @@
 --   Took         what a result says of what is read: a number is exact, Big is at least a bound that falls by one with each depth
 -- Assumes nothing.
 use mathlib.Core.Path.{_≡_}
+use mathlib.Core.Bool.{true, false}
 use mathlib.Core.List.{List}
 use Prim.Native.Nat.{ℕ, _+_, _-_, _^_, _≤_, _<_}
 use lib.Dec.{eqb}
-use lib.ListN.{drop}
+use lib.ListN.{length, getD, take, drop}
 use Rattle.numbers.specs.Pick.{pick}
 use Rattle.numbers.specs.Size.{Size, sizeOf}
 use Rattle.numbers.specs.Joined.{capped, limit}
 use Rattle.numbers.specs.Or.{turn}
 use Rattle.numbers.specs.Except
+use Rattle.numbers.specs.Dep
+use Rattle.grammar.specs.Rows.{allEndless}
+use Rattle.grammar.specs.Plan.{sizeIn}
+use Rattle.walk.specs.Visit.{counts}
+use Rattle.walk.specs.Good.{firsts, secondSize, headSize}
 use Rattle.numbers.specs.declared.joined.Joined.{Joined}
 use Rattle.numbers.specs.declared.joined.Joined.the-variants.{Exact, Big as Large}
 use Rattle.grammar.specs.declared.refusal.Refusal.{Refusal}
@@ -57,9 +63,20 @@ joinedBy f (Wrong r) = Wrong r
 
 -- a place k in the cells stands for those from there on, of which the case may have as many as are left up to stop
 abbrev pub TookBy : ℕ → Read → List ℕ → ℕ → Got → Type 0
-TookBy least w cells stop (Number n k) = (w ≡ read n (stop - k) (drop k cells)) × (n < limit) × (k ≤ stop)
-TookBy least w cells stop (Big k) = (m : ℕ) × (least ≤ m) × (w ≡ read m (stop - k) (drop k cells)) × (k ≤ stop)
+TookBy least w cells stop (Number n k) = (w ≡ read n (stop - k) (drop k cells)) × (n < limit)
+TookBy least w cells stop (Big k) = (m : ℕ) × (least ≤ m) × (w ≡ read m (stop - k) (drop k cells))
 TookBy least w cells stop (Wrong r) = w ≡ wrong r
 
 pub record Took (least : ℕ) (w : Read) (cells : List ℕ) (stop : ℕ) (r : Got) : Type 0 where
   pub is : TookBy least w cells stop r
+
+-- what the code needs to join a dep's numbers: x is below the size of the first part
+pub record DepJoins (plan p : List ℕ) (a b x : ℕ) : Type 0 where
+  pub first : a < 256
+  pub inside : b + firsts plan a ≤ length p
+  pub nodes : (j : ℕ) → j < firsts plan a → getD p (b + j) 0 < 256
+  pub finite : headSize plan p b < 2 ^ 63 → (j : ℕ) → j < firsts plan a → secondSize plan p b j < 2 ^ 63
+  pub sum : headSize plan p b < 2 ^ 63 → Dep.total (counts (sizeIn plan) (take (firsts plan a) (drop b p))) < 2 ^ 63
+  pub not-endless : headSize plan p b < 2 ^ 63 → false ≡ allEndless (sizeIn plan) (take (firsts plan a) (drop b p))
+  pub endless : 2 ^ 63 ≤ headSize plan p b → allEndless (sizeIn plan) (take (firsts plan a) (drop b p)) ≡ true
+  pub chosen : x < firsts plan a

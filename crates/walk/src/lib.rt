@@ -1,5 +1,6 @@
 // The walks over a plan: from a number to cells, and from cells to a number.
 pub mod fill;
+pub mod joins;
 pub mod look;
 pub mod number;
 pub mod step;

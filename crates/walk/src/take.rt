@@ -1,1 +1,74 @@
-// take
+// Reading: from cells to a number, in one pass.
+ghost use mathlib.Core.Path.{_≡_};
+ghost use Prim.Native.Nat.{_+_, _-_, _*_, _^_, _≤_};
+ghost use lib.ListN.{drop};
+ghost use Rattle.walk.specs.Grammar.{planned};
+ghost use Rattle.walk.specs.Reading.{taken};
+ghost use Rattle.walk.specs.Got.{Took};
+ghost use Rattle.walk.specs.Look.{Reading};
+use super::joins::depended;
+use super::joins::paired;
+use super::look::Next;
+use super::look::next_of;
+use super::number::Got;
+use super::number::bigger;
+use super::number::got_of;
+use super::number::grown;
+use grammar::refusal::Refusal;
+use numbers::joined::cap;
+
+// "Reading walks the same nodes from cells": from the place `at`, where a case may have no cell from
+// `stop` on. Numbers too big to hold are Big: what they would be can fall by one with each visit.
+pub fn take(
+    plan: &[u64; 1024],
+    pool: &[u64],
+    i: usize,
+    left: usize,
+    off: u64,
+    cells: &[u64],
+    at: usize,
+    stop: usize,
+) -> Got
+    requires { ⌜ Reading (now plan) (now pool) i off ⌝ }
+    requires { ⌜ off + left * 2 ^ 32 ≤ 200 * 2 ^ 32 ⌝ }
+    ensures { λ r. ⌜ Took (2 ^ 62 + (201 - left)) (taken (planned (now (plan .entry)) (now (pool .entry))) left i off (stop - at) (drop at (now (cells .entry)))) (now (cells .entry)) stop r ⌝ }
+{
+    if left == 0 {
+        return Got::Wrong(Refusal::TooDeep);
+    }
+    match next_of(plan, pool, i, off, cells, at, stop) {
+        Next::Ends(n, next) => got_of(cap(n), next),
+        Next::Fails(r) => Got::Wrong(r),
+        Next::On(how, p, more, next) => {
+            grown(how, take(plan, pool, p, left - 1, more, cells, next, stop))
+        }
+        Next::Both(a, b, next) => match take(plan, pool, a, left - 1, 0, cells, next, stop) {
+            Got::Number(x, then) => {
+                paired(
+                    plan,
+                    a,
+                    b,
+                    x,
+                    take(plan, pool, b, left - 1, 0, cells, then, stop),
+                )
+            }
+            Got::Big(then) => bigger(take(plan, pool, b, left - 1, 0, cells, then, stop)),
+            Got::Wrong(r) => Got::Wrong(r),
+        },
+        Next::Chosen(a, b, next) => match take(plan, pool, a, left - 1, 0, cells, next, stop) {
+            Got::Number(x, then) => {
+                let c = pool[b + (x as usize)] as usize;
+                depended(
+                    plan,
+                    pool,
+                    a,
+                    b,
+                    x,
+                    take(plan, pool, c, left - 1, 0, cells, then, stop),
+                )
+            }
+            Got::Big(then) => Got::Big(then),
+            Got::Wrong(r) => Got::Wrong(r),
+        },
+    }
+}

@@ -1,0 +1,17 @@
+-- `calling::write::lend` lends a part that lies within the buffer.
+-- Assumes nothing.
+use borrow.Author.Needs.{needs}
+use native.Mathlib.Omega.{arith}
+use lib.ListN.{length-take}
+use Rattle.calling.proofs.write.lend.Statement.{statement}
+use Rattle.calling.proofs.write.lend.Tie as tie
+
+pub lend-spec : {M : Type 1} → statement M
+lend-spec =
+    tie.close
+    (tie.spec
+    (λ c. search needs)
+    (λ c. simp length-take (omega arith))
+    (λ c κs. search needs)
+    (λ c. search needs)
+    (λ c. search needs))

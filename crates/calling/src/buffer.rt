@@ -1,0 +1,38 @@
+// The buffer that is lent to a call, with start words that show which of them the call changed.
+use super::page::PAGE_BYTES;
+use super::page::put_text;
+
+pub const MOST_ROOM: usize = 70000;
+
+const LARGEST_WORD: u64 = 18446744073709551615;
+
+fn start_word(place: usize) -> u64 {
+    LARGEST_WORD - place as u64
+}
+
+pub fn fill(buffer: &mut [u64]) {
+    let mut i = 0;
+    while i < buffer.len() {
+        buffer[i] = start_word(i);
+        i += 1;
+    }
+}
+
+fn changed_from(buffer: &[u64], from: usize) -> bool {
+    let mut i = from;
+    while i < buffer.len() {
+        if buffer[i] != start_word(i) {
+            return true;
+        }
+        i += 1;
+    }
+    false
+}
+
+// Ends a call's line: the call was to write the first `written` words of the buffer and no other.
+pub fn end_line(page: &mut [u8; PAGE_BYTES], used: usize, buffer: &[u64], written: usize) -> usize {
+    if changed_from(buffer, written) {
+        return put_text(page, used, b" CHANGED\n");
+    }
+    put_text(page, used, b"\n")
+}
