@@ -1,3 +1,4 @@
 -- What the public calls on one case promise.
 pub mod Prepared
 pub mod Write
+pub mod Read

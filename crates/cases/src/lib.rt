@@ -1,7 +1,10 @@
 // The public calls on one case. No call relies on an earlier check: each checks its table first.
 mod prepared;
+mod reading;
 mod writing;
 
+pub use reading::Found;
+pub use reading::read;
 pub use writing::Written;
 pub use writing::write;
 ghost use mathlib.Core.Path.{_≡_};

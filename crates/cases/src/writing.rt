@@ -11,9 +11,9 @@ use walk::tally::RoomLeft;
 use walk::tally::tally;
 
 // "Depth is at most 200. A case has at most 65,536 cells"
-const DEPTH: usize = 200;
+pub const DEPTH: usize = 200;
 
-const MOST_CELLS: usize = 65536;
+pub const MOST_CELLS: usize = 65536;
 
 // The count of cells, or the refusal and its node.
 pub enum Written {

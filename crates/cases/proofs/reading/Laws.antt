@@ -1,0 +1,84 @@
+-- What the code of `read` has found, in the words of its promise.
+--   more-cells, more-cells-big        cells left over
+--   number-is, number-large, big-is   a number that is asked for, or is not
+--   wrong-is                          the walk's own refusal
+--   reads-of, found-11, found-is      the walk of an accepted table
+-- Assumes nothing.
+use mathlib.Core.Path.{_≡_, refl, sym, _∙_}
+use mathlib.Core.Logic.{inl}
+use mathlib.Core.List.{List}
+use Prim.Native.Nat.{ℕ, _+_, _^_, _≤_, _<_}
+use native.Mathlib.Omega.{arith}
+use lib.ListN.{length, getD, drop, drop-of-length-le}
+use lib.Seq.{drop-cons}
+use borrow.Author.Tests.{lt-ltb, le-ltb}
+use Rattle.grammar.specs.Table.{nodes}
+use Rattle.grammar.specs.declared.refusal.Refusal.{Refusal}
+use Rattle.grammar.specs.declared.refusal.Refusal.the-variants.{NoSuchStart, NotACase, NumberTooLarge}
+use Rattle.grammar.specs.declared.refusal.Verdict.{Verdict}
+use Rattle.grammar.specs.declared.refusal.Verdict.the-variants.{Accepted, Refused as Refuses}
+use Rattle.walk.specs.Grammar.{grammarOf, planned}
+use Rattle.walk.specs.Walk.{depth}
+use Rattle.walk.specs.Room.{most}
+use Rattle.walk.specs.Reading.{Read, taken}
+use Rattle.walk.specs.Look.{Reading}
+use Rattle.walk.specs.Got.{Took}
+use Rattle.walk.specs.declared.number.Got.{Got}
+use Rattle.walk.specs.declared.number.Got.the-variants.{Number as Read-number, Big, Wrong}
+use Rattle.walk.proofs.Takes.{told}
+use Rattle.cases.specs.Prepared.{Planning, Prepared}
+use Rattle.cases.specs.Read.{found, finds, reads}
+use Rattle.cases.specs.declared.reading.Found.{Found}
+use Rattle.cases.specs.declared.reading.Found.the-variants.{Number, Refused}
+use Rattle.cases.proofs.Walking.{same-grammar, walkable}
+
+module _ {cells : List ℕ} {g : Got} {least : ℕ} {w : Read} (lo : 2 ^ 62 ≤ least) (h : Took least w cells most g) where
+  module _ {n k : ℕ} (e : g ≡ Read-number n k) where
+    pub more-cells : k < length cells → Refused NotACase 0 ≡ found w
+    unfolding found
+    more-cells l = rw (told h e .0, drop-cons cells k 0 l)
+
+    pub number-is : length cells ≤ k → n < 2 ^ 62 → Number n ≡ found w
+    unfolding found
+    number-is l s = rw (told h e .0, drop-of-length-le cells {i = k} l, lt-ltb n (2 ^ 62) s)
+
+    pub number-large : length cells ≤ k → 2 ^ 62 ≤ n → Refused NumberTooLarge 0 ≡ found w
+    unfolding found
+    number-large l s = rw (told h e .0, drop-of-length-le cells {i = k} l, le-ltb n (2 ^ 62) s)
+
+  module _ {k : ℕ} (e : g ≡ Big k) where
+    pub more-cells-big : k < length cells → Refused NotACase 0 ≡ found w
+    unfolding found
+    more-cells-big l = rw (told h e .2, drop-cons cells k 0 l)
+
+    pub big-is : length cells ≤ k → Refused NumberTooLarge 0 ≡ found w
+    unfolding found
+    big-is l = let t = told h e in rw (t .2, drop-of-length-le cells {i = k} l, le-ltb (t .0) (2 ^ 62) (omega (arith, t .1)))
+
+  pub wrong-is : {r : Refusal} → g ≡ Wrong r → Refused r 0 ≡ found w
+  unfolding found
+  wrong-is e = rw (told h e)
+
+-- ---- of an accepted table
+module _ {t p plan : List ℕ} (h : Planning t p plan) (i : ℕ) where
+  pub found-11 : (cs : List ℕ) → nodes t ≤ i → Refused NoSuchStart 0 ≡ finds t p i cs
+  unfolding finds
+  found-11 cs l = rw (le-ltb i (nodes t) l)
+
+  module _ (l : i < nodes t) where
+    pub reads-of : Reading plan p i 0
+    reads-of = record { walks = walkable h; node = l; single = inl refl }
+
+    pub found-is : (cs : List ℕ) {r : Found} → r ≡ found (taken (planned plan p) depth i 0 most cs) → r ≡ finds t p i cs
+    unfolding finds
+    found-is cs e = e ∙ rw (lt-ltb i (nodes t) l, same-grammar h)
+
+-- ---- the call
+module _ {t p plan : List ℕ} {v : Verdict} (h : Prepared t p plan v) (i : ℕ) (cs : List ℕ) where
+  pub read-refused : {r : Refusal} {k : ℕ} → v ≡ Refuses r k → Refused r k ≡ reads t p i cs
+  unfolding reads
+  read-refused e = rw (← h .is, e)
+
+  pub read-accepted : v ≡ Accepted → {f : Found} → f ≡ finds t p i cs → f ≡ reads t p i cs
+  unfolding reads
+  read-accepted e g = rw (← h .is, e) g

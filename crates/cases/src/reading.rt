@@ -1,0 +1,78 @@
+// From cells to the number.
+ghost use mathlib.Core.Path.{_≡_};
+ghost use Prim.Native.Nat.{ℕ, _^_, _≤_};
+ghost use Rattle.walk.specs.Reading.{Read};
+ghost use Rattle.walk.specs.Room.{most};
+ghost use Rattle.walk.specs.Got.{Took};
+ghost use Rattle.cases.specs.Prepared.{Planning};
+ghost use Rattle.cases.specs.Read.{found, finds, reads};
+use super::prepared::prepare;
+use super::writing::DEPTH;
+use super::writing::MOST_CELLS;
+use grammar::refusal::Refusal;
+use grammar::refusal::Verdict;
+use numbers::size::LARGEST;
+use walk::number::Got;
+use walk::take::take;
+
+// The number, or the refusal and its node.
+pub enum Found {
+    Number(u64),
+    Refused(Refusal, u64),
+}
+
+// "Then cells left over (15, whole-case reading), then 16."
+fn whole(cells: &[u64], g: Got) -> Found
+    ensures { λ r. ⌜ ((least : ℕ) (w : Read) → 2 ^ 62 ≤ least → Took least w (now (cells .entry)) most g → r ≡ found w) ⌝ }
+{
+    match g {
+        Got::Number(n, next) => {
+            if next < cells.len() {
+                return Found::Refused(Refusal::NotACase, 0);
+            }
+            if LARGEST <= n {
+                return Found::Refused(Refusal::NumberTooLarge, 0);
+            }
+            Found::Number(n)
+        }
+        Got::Big(next) => {
+            if next < cells.len() {
+                return Found::Refused(Refusal::NotACase, 0);
+            }
+            Found::Refused(Refusal::NumberTooLarge, 0)
+        }
+        Got::Wrong(r) => Found::Refused(r, 0),
+    }
+}
+
+// The call on an accepted table: 11, then the walk.
+fn read_planned(
+    table: &[u64],
+    pool: &[u64],
+    plan: &[u64; 1024],
+    start: usize,
+    cells: &[u64],
+) -> Found
+    requires { ⌜ Planning (now table) (now pool) (now plan) ⌝ }
+    ensures { λ r. ⌜ r ≡ finds (now (table .entry)) (now (pool .entry)) start (now (cells .entry)) ⌝ }
+{
+    if table.len() / 3 <= start {
+        return Found::Refused(Refusal::NoSuchStart, 0);
+    }
+    whole(
+        cells,
+        take(plan, pool, start, DEPTH, 0, cells, 0, MOST_CELLS),
+    )
+}
+
+// The number of a case, from all its cells.
+pub fn read(table: &[u64], pool: &[u64], start: usize, cells: &[u64]) -> Found
+    ensures { λ r. ⌜ r ≡ reads (now (table .entry)) (now (pool .entry)) start (now (cells .entry)) ⌝ }
+{
+    let mut plan = [0u64; 1024];
+    let v = prepare(table, pool, &mut plan);
+    match v {
+        Verdict::Refused(r, k) => Found::Refused(r, k),
+        Verdict::Accepted => read_planned(table, pool, &plan, start, cells),
+    }
+}
