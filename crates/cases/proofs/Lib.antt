@@ -3,4 +3,6 @@ pub mod Preparing
 pub mod Walking
 pub mod Meaning
 pub mod Outcomes
+pub mod Doors
+pub mod BothSides
 pub mod Worked

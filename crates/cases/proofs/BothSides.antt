@@ -1,0 +1,91 @@
+-- Demand 2, for every accepted table and every start in it: "the case of a number and the number of a case .. each undoes the other, and nothing else is accepted."
+-- The theorems are about what `write` and `read` answer on every input (`writes`, `reads`: their promises). Each proof is a citation.
+--   case-written        a number asked for that has a case within the limits: `write` gives it
+--   written-then-read   what `write` gives, `read` finds the number of
+--   read-then-written   what `read` finds the number of, `write` gives back, in any buffer that is long enough
+--   only-cases          `read` gives a number only for the cells of its case
+--   one-case, one-number   a number has one case, a case one number
+--   reads-on, no-beginning   a case followed by anything is read to its end, and no case is the beginning of a different one
+-- Assumes nothing.
+use mathlib.Core.Path.{_≡_, refl, sym, subst, _∙_}
+use mathlib.Core.Logic.{inl}
+use mathlib.Core.List.{List, [], _∷_, _++_, map, append-nil}
+use Prim.Native.Nat.{ℕ, _+_, _-_, _^_, _≤_, _<_}
+use native.Mathlib.Omega.{arith}
+use lib.ListN.{length}
+use Rattle.grammar.specs.Table.{nodes}
+use Rattle.grammar.specs.Sizes.{sizeAt, sizes}
+use Rattle.grammar.specs.Verdict.{verdict}
+use Rattle.grammar.specs.declared.refusal.Verdict.the-variants.{Accepted}
+use Rattle.walk.specs.Grammar.{grammarOf}
+use Rattle.walk.specs.Walk.{cell, walk, cells, depth}
+use Rattle.walk.specs.Room.{Case, most}
+use Rattle.walk.specs.Reading.{read, taken}
+use Rattle.walk.specs.Good.{Good}
+use Rattle.walk.proofs.Parts.{Goes}
+use Rattle.walk.proofs.Back.{shifted-none, back}
+use Rattle.walk.proofs.Only.{only, prefix-free}
+use Rattle.cases.specs.Read.{reads}
+use Rattle.cases.specs.Write.{roomFor, writes}
+use Rattle.cases.specs.declared.reading.Found.the-variants.{Number}
+use Rattle.cases.specs.declared.writing.Written.the-variants.{Done}
+use Rattle.cases.proofs.Meaning.{accepted-passes, accepted-checked}
+use Rattle.cases.proofs.Walking.{good-of}
+use Rattle.cases.proofs.Doors.{Asked, cells-map, reads-is, found-number, number-found, writes-is, writes-done}
+
+module _ (t p : List ℕ) (a : verdict t p ≡ Accepted) (i : ℕ) (l : i < nodes t) where
+  good : Good (grammarOf t p) (nodes t)
+  good = good-of t p (accepted-passes t p a) (accepted-checked t p a)
+
+  goes : {n : ℕ} → Asked (sizeAt (sizes t p) i) n → Goes (grammarOf t p) (nodes t) i n
+  goes q = record { node = l; below = q .below }
+
+  -- ---- what a case is
+  case-of : (n room k : ℕ) → writes t p i n room ≡ Done k → Case (grammarOf t p) i n (cells (walk (grammarOf t p) depth i n))
+  case-of n room k e = let (q, s, c, f) = writes-done t p a i l n room k e in record { shows = s; few = omega arith }
+
+  pub case-written : (n room : ℕ) (cs : List ℕ) → Asked (sizeAt (sizes t p) i) n → Case (grammarOf t p) i n cs → length cs ≤ room
+      → (writes t p i n room ≡ Done (length cs)) × (cells (walk (grammarOf t p) depth i n) ≡ cs)
+  case-written n room cs q c f = (writes-is t p a i l n room cs q (c .shows) (omega (arith, c .few)), rw (c .shows) (cells-map cs))
+
+  -- ---- 4. a case followed by anything
+  pub reads-on : (n : ℕ) (cs rest : List ℕ) (q : ℕ) → Asked (sizeAt (sizes t p) i) n → Case (grammarOf t p) i n cs
+      → taken (grammarOf t p) depth i 0 (length cs + q) (cs ++ rest) ≡ read n q rest
+  reads-on n cs rest q k c = rw shifted-none at (back (grammarOf t p) (nodes t) good depth i n (goes k) 0 (inl refl) cs (c .shows) q rest)
+
+  -- ---- 1. written, then read
+  case-read : (n : ℕ) (cs : List ℕ) → Asked (sizeAt (sizes t p) i) n → Case (grammarOf t p) i n cs → reads t p i cs ≡ Number n
+  case-read n cs q c =
+      let room : length cs + (most - length cs) ≡ most = omega (arith, c .few) in
+      reads-is t p a i l cs ∙ number-found _ n (most - length cs) (rw (room, append-nil) at (reads-on n cs [] (most - length cs) q c)) (q .small)
+
+  pub written-then-read : (n room k : ℕ) → writes t p i n room ≡ Done k → reads t p i (cells (walk (grammarOf t p) depth i n)) ≡ Number n
+  written-then-read n room k e = case-read n _ (writes-done t p a i l n room k e .0) (case-of n room k e)
+
+  -- ---- 3. nothing else is accepted
+  pub only-cases : (n : ℕ) (cs : List ℕ) → reads t p i cs ≡ Number n → Asked (sizeAt (sizes t p) i) n × Case (grammarOf t p) i n cs
+  only-cases n cs e =
+      let (q, r, s) = found-number _ n (sym (reads-is t p a i l cs) ∙ e) in
+      let (b, (ws, shows, stands, room)) = only (grammarOf t p) (nodes t) good depth i l 0 most cs (inl refl) r in
+      let same : ws ≡ cs = sym (stands ∙ rw shifted-none (append-nil ws)) in
+      (record { below = b; small = s }, subst (Case (grammarOf t p) i n) same (record { shows = shows; few = omega arith }))
+
+  pub one-case : (n : ℕ) (cs ds : List ℕ) → reads t p i cs ≡ Number n → reads t p i ds ≡ Number n → cs ≡ ds
+  one-case n cs ds e f =
+      let (q, c) = only-cases n cs e in
+      let (r, d) = only-cases n ds f in
+      sym (case-written n (length cs) cs q c (omega arith) .1) ∙ case-written n (length ds) ds r d (omega arith) .1
+
+  pub one-number : (m n : ℕ) (cs : List ℕ) → reads t p i cs ≡ Number m → reads t p i cs ≡ Number n → m ≡ n
+  one-number m n cs e f = let g : Number m ≡ Number n = sym e ∙ f in cc
+
+  -- ---- 2. read, then written
+  pub read-then-written : (n room : ℕ) (cs : List ℕ) → reads t p i cs ≡ Number n → length cs ≤ room
+      → (writes t p i n room ≡ Done (length cs)) × (cells (walk (grammarOf t p) depth i n) ≡ cs)
+  read-then-written n room cs e f = let (q, c) = only-cases n cs e in case-written n room cs q c f
+
+  pub no-beginning : (m n : ℕ) (cs more : List ℕ) → reads t p i cs ≡ Number m → reads t p i (cs ++ more) ≡ Number n → (more ≡ []) × (m ≡ n)
+  no-beginning m n cs more e f =
+      let (q, c) = only-cases m cs e in
+      let (r, d) = only-cases n (cs ++ more) f in
+      prefix-free (grammarOf t p) (nodes t) good depth i m n (goes q) (goes r) cs (cs ++ more) more (c .shows) (d .shows) refl
