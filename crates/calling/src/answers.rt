@@ -16,3 +16,13 @@ pub fn refused(page: &mut [u8; PAGE_BYTES], used: usize, refusal: Refusal, node:
     let placed = put_text(page, numbered, b" at ");
     put_number(page, placed, node)
 }
+
+pub fn refused_line(
+    page: &mut [u8; PAGE_BYTES],
+    used: usize,
+    refusal: Refusal,
+    node: u64,
+) -> usize {
+    let said = refused(page, used, refusal, node);
+    put_text(page, said, b"\n")
+}

@@ -9,12 +9,14 @@ use super::line::MOST_FIELDS;
 use super::line::same;
 use super::line::word_size;
 use super::page::PAGE_BYTES;
+use super::read;
 use super::state::State;
 use super::write;
 
 enum Call {
     Check,
     Write,
+    Read,
     Unknown,
 }
 
@@ -24,6 +26,9 @@ fn call_of(word: &[u8]) -> Call {
     }
     if same(word, b"write") {
         return Call::Write;
+    }
+    if same(word, b"read") {
+        return Call::Read;
     }
     Call::Unknown
 }
@@ -73,6 +78,7 @@ fn answer_call(
     match call {
         Call::Check => check::answer(rest, table, pool, page, used),
         Call::Write => write::answer(rest, table, pool, fields, buffer, page, used),
+        Call::Read => read::answer(rest, table, pool, fields, page, used),
         Call::Unknown => unreadable(page, used),
     }
 }

@@ -1,5 +1,5 @@
 // `check`: whether the table is a grammar.
-use super::answers::refused;
+use super::answers::refused_line;
 use super::answers::unreadable;
 use super::page::PAGE_BYTES;
 use super::page::put_text;
@@ -20,9 +20,6 @@ pub fn answer(
     }
     match cases::check(table, pool) {
         Verdict::Accepted => put_text(page, used, b"accepted\n"),
-        Verdict::Refused(refusal, node) => {
-            let said = refused(page, used, refusal, node);
-            put_text(page, said, b"\n")
-        }
+        Verdict::Refused(refusal, node) => refused_line(page, used, refusal, node),
     }
 }

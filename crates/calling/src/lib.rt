@@ -6,6 +6,7 @@ mod calls;
 mod check;
 mod line;
 mod page;
+mod read;
 mod state;
 mod write;
 

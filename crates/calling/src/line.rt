@@ -8,8 +8,11 @@ use lines::ascii::SPACE;
 // Where the first field is in what follows the word: a space stands before it.
 pub const FIELDS_AT: usize = 1;
 
-// A row has at most 70,000 words, and START and ROOM before it.
-pub const MOST_FIELDS: usize = 70002;
+// As many words as a row has.
+pub const MOST_ROW: usize = 70000;
+
+// A row, and START and ROOM before it.
+pub const MOST_FIELDS: usize = MOST_ROW + 2;
 
 // The place after the line that starts at `at`.
 pub fn after(text: &[u8], at: usize) -> usize

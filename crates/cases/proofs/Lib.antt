@@ -6,3 +6,4 @@ pub mod Outcomes
 pub mod Doors
 pub mod BothSides
 pub mod Worked
+pub mod WorkedCases

@@ -35,8 +35,8 @@ fn whole(cells: &[u64], g: Got) -> Found
             }
             Found::Number(n)
         }
-        Got::Big(next) => {
-            if next < cells.len() {
+        Got::Big(end) => {
+            if end < cells.len() {
                 return Found::Refused(Refusal::NotACase, 0);
             }
             Found::Refused(Refusal::NumberTooLarge, 0)

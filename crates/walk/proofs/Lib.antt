@@ -1,5 +1,6 @@
 -- What the proofs of the walks cite.
 pub mod Deps
+pub mod Strides
 pub mod Sums
 pub mod Seconds
 pub mod Chosen

@@ -8,3 +8,4 @@ pub mod Good
 pub mod Reading
 pub mod Got
 pub mod Look
+pub mod Trail

@@ -1,0 +1,103 @@
+-- Worked cases of 01, "Cases on both sides": one list, and one theorem over all of it, computed from the definitions.
+--   cases, worked   the list and the theorem
+-- Assumes nothing.
+use mathlib.Core.Path.{_≡_, refl}
+use mathlib.Core.Bool.{_&&_, _||_}
+use mathlib.Core.List.{List, [], _∷_, map}
+use Prim.Native.Nat.{ℕ, _+_, _^_}
+use Rattle.numbers.specs.Size.{plus, times, less}
+use Rattle.numbers.specs.Root.{rootBy, root}
+use Rattle.numbers.specs.Or
+use Rattle.numbers.specs.Cons
+use Rattle.numbers.specs.Dep.{inTurn}
+use Rattle.numbers.specs.Dep
+use Rattle.numbers.specs.Except
+use Rattle.graph.specs.Ways.{has, via}
+use Rattle.graph.specs.Lowest.{lowest}
+use Rattle.grammar.specs.Refusals.{numberOf}
+use Rattle.grammar.specs.Node.{nodeOf, usesA, usesB}
+use Rattle.grammar.specs.Rows.{row, different, every, total, belowRow, natsRow, poolRow, shiftRow, orRow, consRow, secondsRow, further, depRow, exceptRow, fixRow, againRow, rowOf, rowAt}
+use Rattle.grammar.specs.Sizes.{onward, scan, sizes}
+use Rattle.grammar.specs.Steps.{steps}
+use Rattle.grammar.specs.Verdict.{leads, unguarded, exceptOnCycle, cycles, settled, verdict}
+use Rattle.walk.specs.Grammar.{grammarOf}
+use Rattle.walk.specs.Visit.{secondsOf, stepOf}
+use Rattle.walk.specs.Walk.{raised, shown, walk, depth}
+use Rattle.walk.specs.Walk
+use Rattle.walk.specs.Room.{tallied}
+use Rattle.walk.specs.Reading.{cellOf, placeOf, ahead, become, follow, taken}
+use Rattle.cases.specs.Write.{walks, writes, WriteAnswer, written}
+use Rattle.cases.specs.Read.{found, finds, reads, ReadAnswer, readOf}
+use Rattle.cases.proofs.Worked.{L, D}
+
+-- a table, its pool, a start node, a number and its cells; or the cells, the refusal's number and the number found
+pub data Worked : Type 0 where
+  writes-as : List ℕ → List ℕ → ℕ → ℕ → List ℕ → Worked
+  reads-as : List ℕ → List ℕ → ℕ → List ℕ → ℕ → ℕ → Worked
+
+-- refusal, count and cells; refusal and number
+abbrev writing : WriteAnswer → List ℕ → List ℕ
+writing w cs = w .number ∷ w .cells ∷ cs
+
+abbrev reading : ReadAnswer → List ℕ
+reading r = r .refusal ∷ r .number ∷ []
+
+abbrev count : List ℕ → ℕ
+count [] = 0
+count (c ∷ cs) = count cs + 1
+
+unfoldable pub asked : Worked → List ℕ
+asked (writes-as t p i n cs) = writing (written (writes t p i n 65536)) (Walk.cells (walk (grammarOf t p) depth i n))
+asked (reads-as t p i cs r n) = reading (readOf (reads t p i cs))
+
+unfoldable pub expected : Worked → List ℕ
+expected (writes-as t p i n cs) = 0 ∷ count cs ∷ cs
+expected (reads-as t p i cs r n) = r ∷ n ∷ []
+
+-- two nats in cons; below 2 with below 3; below 2 with below 2; or of below 2 and nats; nats except 13
+abbrev pub nats-pair : List ℕ
+nats-pair = 1 ∷ 0 ∷ 0 ∷ 5 ∷ 0 ∷ 0 ∷ []
+
+abbrev pub two-three : List ℕ
+two-three = 0 ∷ 2 ∷ 0 ∷ 0 ∷ 3 ∷ 0 ∷ 5 ∷ 0 ∷ 1 ∷ []
+
+abbrev pub two-two : List ℕ
+two-two = 0 ∷ 2 ∷ 0 ∷ 5 ∷ 0 ∷ 0 ∷ []
+
+abbrev pub two-or-nats : List ℕ
+two-or-nats = 0 ∷ 2 ∷ 0 ∷ 1 ∷ 0 ∷ 0 ∷ 4 ∷ 0 ∷ 1 ∷ []
+
+abbrev pub all-but-13 : List ℕ
+all-but-13 = 1 ∷ 0 ∷ 0 ∷ 7 ∷ 0 ∷ 13 ∷ []
+
+-- dep of below 2 with seconds below 3, below 2
+abbrev pub chosen-of : List ℕ
+chosen-of = 0 ∷ 2 ∷ 0 ∷ 0 ∷ 3 ∷ 0 ∷ 6 ∷ 0 ∷ 0 ∷ []
+
+abbrev pub cases : List Worked
+cases =
+    writes-as L [] 5 0 (0 ∷ 0 ∷ [])
+    ∷ writes-as L [] 5 1 (1 ∷ 0 ∷ 0 ∷ 0 ∷ [])
+    ∷ writes-as L [] 5 2 (1 ∷ 0 ∷ 1 ∷ 0 ∷ 0 ∷ 0 ∷ [])
+    ∷ writes-as L [] 5 3 (1 ∷ 1 ∷ 0 ∷ 0 ∷ [])
+    ∷ writes-as L [] 5 4 (1 ∷ 1 ∷ 1 ∷ 0 ∷ 0 ∷ 0 ∷ [])
+    ∷ writes-as L [] 5 43 (1 ∷ 6 ∷ 0 ∷ 0 ∷ [])
+    ∷ reads-as L [] 5 (1 ∷ 6 ∷ 0 ∷ 0 ∷ []) 0 43
+    ∷ reads-as L [] 5 (1 ∷ 0 ∷ 1 ∷ 0 ∷ 1 ∷ 0 ∷ 1 ∷ 0 ∷ 1 ∷ 0 ∷ 1 ∷ 0 ∷ 1 ∷ 0 ∷ 0 ∷ 0 ∷ []) 0 210066388901
+    ∷ reads-as L [] 5 (1 ∷ 0 ∷ 1 ∷ 0 ∷ 1 ∷ 0 ∷ 1 ∷ 0 ∷ 1 ∷ 0 ∷ 1 ∷ 0 ∷ 1 ∷ 0 ∷ 1 ∷ 0 ∷ 0 ∷ 0 ∷ []) 16 0
+    ∷ writes-as nats-pair [] 1 8 (2 ∷ 2 ∷ [])
+    ∷ writes-as nats-pair [] 1 9 (0 ∷ 3 ∷ [])
+    ∷ writes-as nats-pair [] 1 42 (6 ∷ 0 ∷ [])
+    ∷ reads-as nats-pair [] 1 (0 ∷ 2147483648 ∷ []) 16 0
+    ∷ reads-as nats-pair [] 1 (2147483647 ∷ 2147483647 ∷ []) 0 4611686018427387903
+    ∷ writes-as two-three [] 2 1 (1 ∷ 0 ∷ [])
+    ∷ writes-as two-two [] 1 1 (0 ∷ 1 ∷ [])
+    ∷ writes-as two-or-nats [] 2 4 (1 ∷ 2 ∷ [])
+    ∷ writes-as chosen-of (1 ∷ 0 ∷ []) 2 3 (1 ∷ 0 ∷ [])
+    ∷ writes-as all-but-13 [] 1 13 (14 ∷ [])
+    ∷ reads-as all-but-13 [] 1 (13 ∷ []) 15 0
+    ∷ []
+
+pub worked : map asked cases ≡ map expected cases
+unfolding asked expected plus times less rootBy root Or.split Or.join Cons.split Cons.join inTurn Dep.split Dep.join Dep.total Except.split Except.join has via lowest numberOf nodeOf usesA usesB row different every total belowRow natsRow poolRow shiftRow orRow consRow secondsRow further depRow exceptRow fixRow againRow rowOf rowAt onward scan sizes steps leads unguarded exceptOnCycle cycles settled verdict secondsOf stepOf raised shown walk Walk.cells tallied cellOf placeOf ahead become follow taken walks writes written found finds reads readOf
+worked = refl
