@@ -9,8 +9,8 @@
 -- Assumes nothing.
 use mathlib.Core.Path.{_≡_, refl, sym, subst, _∙_}
 use mathlib.Core.Logic.{inl}
-use mathlib.Core.List.{List, [], _∷_, _++_, map, append-nil}
-use Prim.Native.Nat.{ℕ, _+_, _-_, _^_, _≤_, _<_}
+use mathlib.Core.List.{List, [], _++_, append-nil}
+use Prim.Native.Nat.{ℕ, _+_, _-_, _≤_, _<_}
 use native.Mathlib.Omega.{arith}
 use lib.ListN.{length}
 use Rattle.grammar.specs.Table.{nodes}
@@ -18,7 +18,7 @@ use Rattle.grammar.specs.Sizes.{sizeAt, sizes}
 use Rattle.grammar.specs.Verdict.{verdict}
 use Rattle.grammar.specs.declared.refusal.Verdict.the-variants.{Accepted}
 use Rattle.walk.specs.Grammar.{grammarOf}
-use Rattle.walk.specs.Walk.{cell, walk, cells, depth}
+use Rattle.walk.specs.Walk.{walk, cells, depth}
 use Rattle.walk.specs.Room.{Case, most}
 use Rattle.walk.specs.Reading.{read, taken}
 use Rattle.walk.specs.Good.{Good}
@@ -26,7 +26,7 @@ use Rattle.walk.proofs.Parts.{Goes}
 use Rattle.walk.proofs.Back.{shifted-none, back}
 use Rattle.walk.proofs.Only.{only, prefix-free}
 use Rattle.cases.specs.Read.{reads}
-use Rattle.cases.specs.Write.{roomFor, writes}
+use Rattle.cases.specs.Write.{writes}
 use Rattle.cases.specs.declared.reading.Found.the-variants.{Number}
 use Rattle.cases.specs.declared.writing.Written.the-variants.{Done}
 use Rattle.cases.proofs.Meaning.{accepted-passes, accepted-checked}

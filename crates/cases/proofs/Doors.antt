@@ -2,10 +2,10 @@
 --   reads-is, found-number    what `read` answers; an answer with a number
 --   writes-is, written-done   what `write` answers where the number may be asked for; an answer with a count
 -- Assumes nothing.
-use mathlib.Core.Path.{_≡_, refl, sym, ap, subst, _∙_}
-use mathlib.Core.Bool.{Bool, true, false, _&&_, false≢true}
+use mathlib.Core.Path.{_≡_, refl, sym, ap, _∙_}
+use mathlib.Core.Bool.{Bool, true, false}
 use mathlib.Core.List.{List, [], _∷_, map}
-use Prim.Native.Nat.{ℕ, zero, suc, _+_, _-_, _^_, _≤_, _<_}
+use Prim.Native.Nat.{ℕ, zero, suc, _-_, _^_, _≤_, _<_}
 use native.Mathlib.Nat.{not-suc-le-zero, le-of-suc-le-suc}
 use native.Mathlib.Omega.{arith}
 use lib.Dec.{ltb}
@@ -27,9 +27,7 @@ use Rattle.walk.specs.declared.tally.RoomLeft.{RoomLeft}
 use Rattle.walk.specs.declared.tally.RoomLeft.the-variants.{Left, TooDeep, NoRoom}
 use Rattle.cases.specs.Read.{found, finds, reads}
 use Rattle.cases.specs.Write.{asked, roomFor, outcome, walks, writes}
-use Rattle.cases.specs.declared.reading.Found.{Found}
 use Rattle.cases.specs.declared.reading.Found.the-variants.{Number, Refused as Not-found}
-use Rattle.cases.specs.declared.writing.Written.{Written}
 use Rattle.cases.specs.declared.writing.Written.the-variants.{Done, Refused}
 use Rattle.cases.proofs.writing.Laws.{tally-count}
 

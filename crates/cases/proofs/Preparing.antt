@@ -3,17 +3,16 @@
 --   prepared-fault    a node is refused
 --   prepared-cycles   the nodes pass, and the verdict is that on cycles
 -- Assumes nothing.
-use mathlib.Core.Path.{_≡_, refl, sym, ap, _∙_, fun-ext}
-use mathlib.Core.Bool.{Bool, true, false, _&&_}
+use mathlib.Core.Path.{_≡_, ap, _∙_, fun-ext}
+use mathlib.Core.Bool.{true, false}
 use mathlib.Core.List.{List}
-use Prim.Native.Nat.{ℕ, _*_, _≤_, _<_}
+use Prim.Native.Nat.{ℕ, _*_, _≤_}
 use native.Mathlib.Omega.{arith}
-use lib.Dec.{eqb, leb}
 use lib.ListN.{length}
 use borrow.Author.Tests.{eq-eqb, le-leb}
 use Rattle.numbers.specs.Size.{Size}
 use Rattle.grammar.specs.Table.{nodes, lengths}
-use Rattle.grammar.specs.Sizes.{sizeAt, scan, passed, faulty, sizes}
+use Rattle.grammar.specs.Sizes.{sizeAt, scan, passed, sizes}
 use Rattle.grammar.specs.Sound.{Checked}
 use Rattle.grammar.specs.Plan.{sizeIn, Planned, WeighedBy, AllWeighed, Ready}
 use Rattle.grammar.specs.Verdict.{cycles, settled, verdict}
@@ -23,7 +22,7 @@ use Rattle.grammar.specs.declared.refusal.Verdict.{Verdict}
 use Rattle.grammar.specs.declared.refusal.Verdict.the-variants.{Accepted, Refused}
 use Rattle.grammar.proofs.Scan.{scan-sound}
 use Rattle.grammar.proofs.Plans.{plan-sizes}
-use Rattle.cases.specs.Prepared.{Planning, Prepared}
+use Rattle.cases.specs.Prepared.{Prepared}
 
 pub refused-not : {r : Refusal} {k : ℕ} → Refused r k ≡ Accepted → ⊥
 refused-not e = let x : _≡_ {A = ℕ} 0 1 = cc in omega arith

@@ -4,15 +4,15 @@
 --   good-of        an accepted table's grammar is good
 --   walkable       so the plan may be walked
 -- Assumes nothing.
-use mathlib.Core.Path.{_≡_, refl, sym, ap, subst, _∙_, fun-ext}
+use mathlib.Core.Path.{_≡_, refl, _∙_, fun-ext}
 use mathlib.Core.Bool.{Bool, true, false, _||_, false≢true}
 use mathlib.Core.Logic.{_⊎_, inl, inr, ⊎-elim}
 use mathlib.Core.List.{List, [], _∷_}
-use Prim.Native.Nat.{ℕ, zero, suc, _+_, _*_, _^_, _≤_, _<_}
+use Prim.Native.Nat.{ℕ, zero, suc, _≤_, _<_}
 use native.Mathlib.Nat.{mul-le-mul, not-suc-le-zero}
 use native.Mathlib.Omega.{arith}
 use lib.Dec.{eqb, ltb}
-use lib.ListN.{length, getD, take, drop, length-take, length-drop, List·getD-eq-default}
+use lib.ListN.{length, length-take, length-drop, List·getD-eq-default}
 use borrow.Author.Tests.{eqb-true, eqb-false, ltb-true, lt-ltb}
 use Rattle.numbers.specs.Size.{Size, finite, endless, plus, times, less, Below, Some}
 use Rattle.graph.proofs.Marks.{le-or-lt}
@@ -22,13 +22,11 @@ use Rattle.grammar.specs.Rows.{every, isEndless, isOne, few, seconds, total, al
 use Rattle.grammar.specs.Rows.{count as countOf}
 use Rattle.grammar.specs.Sizes.{sizeAt, scan, passed, sizes}
 use Rattle.grammar.specs.Sound.{Sound, Checked}
-use Rattle.grammar.specs.Plan.{sizeIn, Planned}
 use Rattle.grammar.proofs.Scan.{scan-size}
 use Rattle.grammar.proofs.Plans.{plan-sizes}
 use Rattle.grammar.proofs.Tests.{and-left, and-right}
-use Rattle.grammar.proofs.ByKind.{by-kind}
-use Rattle.walk.specs.Grammar.{Grammar, grammarOf, nodeIn, planned}
-use Rattle.walk.specs.Good.{Single, Seconds, Fits, Good, Walkable}
+use Rattle.walk.specs.Grammar.{grammarOf, nodeIn, planned}
+use Rattle.walk.specs.Good.{Single, Fits, Good, Walkable}
 use Rattle.cases.specs.Prepared.{Planning}
 
 -- ---- the plan's grammar

@@ -2,7 +2,6 @@
 --   checks, checked   the list and the theorem
 -- Assumes nothing.
 use mathlib.Core.Path.{_≡_, refl}
-use mathlib.Core.Bool.{_&&_, _||_}
 use mathlib.Core.List.{List, [], _∷_, map}
 use Prim.Native.Nat.{ℕ, _+_, _^_}
 use Rattle.numbers.specs.Size.{plus, times, less}

@@ -2,9 +2,8 @@
 --   cases, worked   the list and the theorem
 -- Assumes nothing.
 use mathlib.Core.Path.{_≡_, refl}
-use mathlib.Core.Bool.{_&&_, _||_}
 use mathlib.Core.List.{List, [], _∷_, map}
-use Prim.Native.Nat.{ℕ, _+_, _^_}
+use Prim.Native.Nat.{ℕ, _+_}
 use Rattle.numbers.specs.Size.{plus, times, less}
 use Rattle.numbers.specs.Root.{rootBy, root}
 use Rattle.numbers.specs.Or
@@ -28,7 +27,7 @@ use Rattle.walk.specs.Room.{tallied}
 use Rattle.walk.specs.Reading.{cellOf, placeOf, ahead, become, follow, taken}
 use Rattle.cases.specs.Write.{walks, writes, WriteAnswer, written}
 use Rattle.cases.specs.Read.{found, finds, reads, ReadAnswer, readOf}
-use Rattle.cases.proofs.Worked.{L, D}
+use Rattle.cases.proofs.Worked.{L}
 
 -- a table, its pool, a start node, a number and its cells; or the cells, the refusal's number and the number found
 pub data Worked : Type 0 where

@@ -3,7 +3,6 @@
 -- Assumes nothing.
 use mathlib.Core.Path.{_≡_}
 use mathlib.Core.List.{List}
-use Rattle.numbers.specs.Size.{Size}
 use Rattle.grammar.specs.Table.{nodes}
 use Rattle.grammar.specs.Sizes.{sizeAt, scan, passed, sizes}
 use Rattle.grammar.specs.Sound.{Checked}

@@ -3,24 +3,22 @@
 --   step-to      to a node of the table
 --   mark-..      the marks of a node's steps, by its kind, as the code sets them
 -- Assumes nothing.
-use mathlib.Core.Path.{_≡_, refl, sym, subst, _∙_}
+use mathlib.Core.Path.{_≡_, refl, subst}
 use mathlib.Core.Bool.{Bool, true, false}
 use mathlib.Core.Logic.{_⊎_, inl, inr, ⊎-elim}
 use mathlib.Core.List.{List, [], _∷_, List·Memᴰ, List·Memᴰ·cases-cons, List·Memᴰ·eq-of-singleton, List·Memᴰ·not-nil}
-use Prim.Native.Nat.{ℕ, zero, suc, _+_, _*_, _≤_, _<_}
+use Prim.Native.Nat.{ℕ, _+_, _*_, _≤_, _<_}
 use native.Mathlib.Omega.{arith}
 use lib.Dec.{ltb}
 use lib.ListN.{length, getD, take, drop, set, List·getD-eq-default}
 use borrow.Author.Tests.{ltb-true}
-use mir.Syntax.{w64}
-use mir.Val.{Fits}
 use Rattle.numbers.specs.Pick.{pick}
-use Rattle.numbers.specs.Size.{Size, finite, endless, sizeOf}
+use Rattle.numbers.specs.Size.{Size}
 use Rattle.numbers.proofs.size.Laws.{by-size}
 use Rattle.graph.specs.Marks.{marked}
-use Rattle.graph.proofs.Marks.{same?, le-or-lt}
+use Rattle.graph.proofs.Marks.{le-or-lt}
 use Rattle.grammar.specs.Table.{kindOf, aOf, bOf, nodes}
-use Rattle.grammar.specs.Node.{Node, below, nats, pool, shift, or, cons, dep, except, fix, again, unknown, nodeOf, nodeAt}
+use Rattle.grammar.specs.Node.{nodeOf}
 use Rattle.grammar.specs.Rows.{every, allLower, few, count, seconds}
 use Rattle.grammar.specs.Steps.{steps, stepsOf, Step}
 use Rattle.grammar.specs.Sound.{Sound, Checked}

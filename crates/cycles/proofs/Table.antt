@@ -4,9 +4,9 @@
 --   lowest-again         the lowest node of a cycle is an again
 --   cycles-..            the verdict on cycles, by what was found
 -- Assumes nothing.
-use mathlib.Core.Path.{_≡_, refl, sym, _∙_}
+use mathlib.Core.Path.{_≡_}
 use mathlib.Core.Bool.{Bool, true, false, not, _&&_}
-use mathlib.Core.List.{List, List·Memᴰ}
+use mathlib.Core.List.{List}
 use Prim.Native.Nat.{ℕ, _+_, _*_, _-_, _≤_, _<_, zero-le}
 use native.Mathlib.Nat.{le-refl, lt-irrefl}
 use native.Mathlib.Omega.{arith}
@@ -15,9 +15,9 @@ use lib.Dec.{eqb, ltb}
 use borrow.Author.Tests.{eqb-true, eqb-false, eq-eqb, not-true, not-false, lt-ltb, le-ltb}
 use lib.ListN.{length, getD, set}
 use Rattle.numbers.specs.Pick.{pick}
-use Rattle.graph.specs.Paths.{Path, Decides}
-use Rattle.graph.specs.Lowest.{Lowest, lowest}
-use Rattle.graph.specs.Marks.{marked, Marks}
+use Rattle.graph.specs.Paths.{Decides}
+use Rattle.graph.specs.Lowest.{Lowest}
+use Rattle.graph.specs.Marks.{marked}
 use Rattle.graph.proofs.Marks.{same?, zeros, zeros-set}
 use Rattle.graph.proofs.Paths.{carry-from, lowest-on}
 use Rattle.graph.proofs.Search.{Searching, Finite, search-start, search-skip, search-open, search-end}

@@ -1,16 +1,15 @@
 -- A node's row looks only at the sizes of lower nodes.
 --   sound-grow, size-grow   so two lists of sizes that agree on them show the same
 -- Assumes nothing.
-use mathlib.Core.Path.{_≡_, refl, sym, ap, _∙_}
-use mathlib.Core.Bool.{Bool, true, false, not, _&&_, _||_}
+use mathlib.Core.Path.{_≡_, refl}
+use mathlib.Core.Bool.{Bool, true, not}
 use mathlib.Core.List.{List, [], _∷_}
-use Prim.Native.Nat.{ℕ, _+_, _≤_, _<_}
+use Prim.Native.Nat.{ℕ, _<_}
 use lib.Dec.{ltb}
-use lib.ListN.{length}
 use borrow.Author.Tests.{ltb-true}
-use Rattle.numbers.specs.Size.{Size, plus, times, less, Below}
+use Rattle.numbers.specs.Size.{Size}
 use Rattle.grammar.specs.Node.{Node, below, nats, pool, shift, or, cons, dep, except, fix, again, unknown}
-use Rattle.grammar.specs.Rows.{every, isEndless, allLower, allFinite, allEndless, count, seconds, total, sizeFor}
+use Rattle.grammar.specs.Rows.{every, isEndless, allLower, seconds, total, sizeFor}
 use Rattle.grammar.specs.Sound.{Sound}
 use Rattle.grammar.proofs.Tests.{and-left, and-right}
 

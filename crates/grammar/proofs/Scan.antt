@@ -4,11 +4,11 @@
 --   scan-sound, scan-size   of a table whose nodes pass: what each node's row shows, and that its size is 01's
 -- Assumes nothing.
 use mathlib.Core.Path.{_≡_, refl, sym, ap, _∙_, fun-ext}
-use mathlib.Core.Bool.{Bool, true, false}
-use mathlib.Core.Logic.{_⊎_, inl, inr, ⊎-elim}
+use mathlib.Core.Bool.{true}
+use mathlib.Core.Logic.{_⊎_, ⊎-elim}
 use mathlib.Core.List.{List, [], _∷_, _++_}
-use Prim.Native.Nat.{ℕ, zero, suc, _+_, _*_, _≤_, _<_, zero-le}
-use native.Mathlib.Nat.{not-suc-le-zero, le-refl, le-of-suc-le-suc, eq-or-lt-of-le}
+use Prim.Native.Nat.{ℕ, zero, suc, _+_, _≤_, _<_, zero-le}
+use native.Mathlib.Nat.{not-suc-le-zero, le-of-suc-le-suc, eq-or-lt-of-le}
 use native.Mathlib.Numerals.{add-one}
 use native.Mathlib.Omega.{arith}
 use lib.ListN.{length, replicate, length-append}
@@ -16,8 +16,8 @@ use Rattle.numbers.specs.Size.{Size, codeOf}
 use Rattle.grammar.specs.Table.{kindOf, aOf, bOf, nodes}
 use Rattle.grammar.specs.Node.{nodeAt, spare}
 use Rattle.grammar.specs.Rows.{Row, fault, sized, rowAt, sizeFor}
-use Rattle.grammar.specs.Sizes.{Scan, passed, faulty, sizeAt, noted, onward, scan, sizesIn, sizes}
-use Rattle.grammar.specs.Plan.{sizeIn, rowed, coded, Small, Planned, WeighedBy, AllWeighed}
+use Rattle.grammar.specs.Sizes.{Scan, passed, faulty, sizeAt, noted, onward, scan, sizes}
+use Rattle.grammar.specs.Plan.{sizeIn, rowed, coded, Small, Planned, AllWeighed}
 use Rattle.grammar.specs.declared.refusal.Refusal.{Refusal}
 use Rattle.grammar.specs.declared.refusal.Verdict.the-variants.{Accepted, Refused}
 use Rattle.grammar.specs.declared.kinds.Weighed.{Weighed}

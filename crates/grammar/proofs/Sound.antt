@@ -2,24 +2,23 @@
 --   sound-row    a row that gives a size shows them, and the size is that of 01's column "Size"
 --   small-for    a size that a row gives is at most 2^62, or endless
 -- Assumes nothing.
-use mathlib.Core.Path.{_≡_, refl, sym, _∙_}
-use mathlib.Core.Bool.{Bool, true, false, not, _&&_, _||_, false≢true}
+use mathlib.Core.Path.{_≡_, refl}
+use mathlib.Core.Bool.{Bool, true, false, _&&_}
 use mathlib.Core.List.{List, [], _∷_}
-use Prim.Native.Nat.{ℕ, _+_, _*_, _-_, _^_, _≤_, _<_}
+use Prim.Native.Nat.{ℕ, _+_, _-_, _^_}
 use native.Mathlib.Omega.{arith}
 use borrow.Author.Tests.{ltb-true, leb-true, eqb-true, not-true}
 use lib.Dec.{eqb, ltb, leb}
-use lib.ListN.{length, take, drop}
-use Rattle.numbers.specs.Size.{Size, finite, endless, plus, times, less, Below}
+use lib.ListN.{length}
+use Rattle.numbers.specs.Size.{Size, finite, endless, plus, times, less}
 use Rattle.numbers.specs.Size.{below as isBelow}
 use Rattle.numbers.proofs.size.Laws.{below-is}
 use Rattle.grammar.specs.Table.{kindOf, aOf, bOf, nodes}
 use Rattle.grammar.specs.Node.{Node, below, nats, pool, shift, or, cons, dep, except, fix, again, unknown, nodeAt, spare}
-use Rattle.grammar.specs.Rows.{Check, asks, Row, fault, sized, row, further, within, different, fits, isEndless, isOne, few, count, seconds, total, allLower, allFinite, allEndless, belowRow, natsRow, poolRow, shiftRow, orRow, consRow, secondsRow, depRow, exceptRow, fixRow, againRow, rowOf, rowAt, isKnown, sizeFor}
+use Rattle.grammar.specs.Rows.{Check, asks, Row, sized, row, further, within, fits, isOne, count, seconds, total, belowRow, natsRow, poolRow, shiftRow, orRow, consRow, secondsRow, depRow, exceptRow, fixRow, againRow, rowOf, rowAt, sizeFor}
 use Rattle.grammar.specs.Sound.{Sound}
 use Rattle.grammar.specs.Plan.{Small}
 use Rattle.grammar.specs.declared.refusal.Refusal.{Refusal}
-use Rattle.grammar.specs.declared.refusal.Refusal.the-variants.{Kind, SpareWord}
 use Rattle.grammar.proofs.Tests.{and-left, and-right}
 
 -- a check that is passed, and those after it

@@ -3,14 +3,14 @@
 --   pair-row   the row of or and of cons
 --   seconds-finite, seconds-endless, seconds-mixed   the row of a dep's seconds, by what the code found
 -- Assumes nothing.
-use mathlib.Core.Path.{_≡_, refl, sym, _∙_, ap}
-use mathlib.Core.Bool.{Bool, true, false, not, _&&_, false≢true}
+use mathlib.Core.Path.{_≡_, refl, sym, _∙_}
+use mathlib.Core.Bool.{Bool, true, false, _&&_, false≢true}
 use mathlib.Core.List.{List, [], _∷_}
 use Prim.Native.Nat.{ℕ, zero, suc, _+_, _*_, _^_, _≤_, _<_}
 use native.Mathlib.Nat.{not-suc-le-zero, le-of-suc-le-suc}
 use native.Mathlib.Numerals.{add-one}
 use native.Mathlib.Omega.{arith}
-use lib.ListN.{length, getD, take, drop, length-drop, length-take}
+use lib.ListN.{length, getD, take, drop, length-drop}
 use lib.Dec.{ltb, leb}
 use lib.Seq.{getD-drop, take-take}
 use borrow.Author.Tests.{lt-ltb, le-leb, lt-leb}
@@ -24,7 +24,7 @@ use Rattle.grammar.specs.Plan.{sizeIn, coded, weighedOf}
 use Rattle.grammar.specs.declared.refusal.Refusal.the-variants.{Reference, UnsuitedPart, TooLarge}
 use Rattle.grammar.specs.declared.kinds.Weighed.{Weighed}
 use Rattle.grammar.specs.declared.kinds.Weighed.the-variants.{Fault, Of as Weighs}
-use Rattle.grammar.proofs.Tests.{and-left, and-right}
+use Rattle.grammar.proofs.Tests.{and-left}
 use Rattle.grammar.proofs.Runs.{wordAt, run-long, run-at}
 
 -- ---- over a list of nodes whose sizes are words below 2^63

@@ -4,14 +4,14 @@
 --   spare-is    so the code's test of spare words is 01's
 -- Assumes nothing.
 use mathlib.Core.Path.{_≡_, refl, sym, subst, _∙_}
-use mathlib.Core.Bool.{Bool, true, false, _&&_, _||_}
+use mathlib.Core.Bool.{Bool, true, false, _||_}
 use mathlib.Core.List.{List, [], _∷_}
 use Prim.Native.Nat.{ℕ, zero, suc, _+_, _*_, _/_, _%_, _≤_, _<_}
 use native.Mathlib.Nat.{not-suc-le-zero, le-of-suc-le-suc}
 use native.Mathlib.Omega.{arith}
 use lib.Dec.{eqb}
 use lib.ListN.{getD}
-use Rattle.grammar.specs.Node.{Node, nodeOf, usesA, usesB, spare}
+use Rattle.grammar.specs.Node.{nodeOf, usesA, usesB, spare}
 use Rattle.grammar.specs.Used.{usedAt}
 use Rattle.grammar.proofs.ByKind.{by-kind}
 

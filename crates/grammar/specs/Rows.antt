@@ -9,7 +9,6 @@ use mathlib.Core.List.{List, [], _∷_}
 use Prim.Native.Nat.{ℕ, _+_, _^_}
 use lib.Dec.{eqb, ltb, leb}
 use lib.ListN.{length, take, drop}
-use Rattle.numbers.specs.Pick.{pick}
 use Rattle.numbers.specs.Size.{Size, finite, endless, plus, times, less}
 use Rattle.numbers.specs.Size.{below as isBelow}
 use Rattle.graph.specs.Ways.{has}

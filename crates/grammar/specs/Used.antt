@@ -1,7 +1,7 @@
 -- The constant table of used words, by its entries: a and then b for each kind.
 --   usedAt   whether the kind of an entry uses the word of that entry
 -- Assumes nothing.
-use mathlib.Core.Bool.{Bool, true, false}
+use mathlib.Core.Bool.{Bool}
 use Prim.Native.Nat.{ℕ, _/_, _%_}
 use lib.Dec.{eqb}
 use Rattle.numbers.specs.Pick.{pick}

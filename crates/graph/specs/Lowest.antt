@@ -3,7 +3,7 @@
 --   lowest test n    the lowest number below n that passes a test, or 256
 -- Assumes nothing.
 use mathlib.Core.Path.{_≡_}
-use mathlib.Core.Bool.{Bool, true, false}
+use mathlib.Core.Bool.{Bool}
 use Prim.Native.Nat.{ℕ, zero, suc, _≤_, _<_}
 use lib.Dec.{ltb}
 use Rattle.numbers.specs.Pick.{pick}

@@ -2,7 +2,6 @@
 --   split i j n     the part numbers of number n
 --   join i j x y    the number whose part numbers are x and y
 -- Assumes nothing.
-use mathlib.Core.Bool.{Bool, true, false}
 use Prim.Native.Nat.{ℕ, _+_, _*_, _-_, _/_, _%_}
 use lib.Dec.{ltb}
 use Rattle.numbers.specs.Pick.{pick}

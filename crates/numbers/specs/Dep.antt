@@ -4,7 +4,6 @@
 --   firsts, second  the size of the first part; of the second that goes with number x of the first
 --   split, join     between a number and the numbers of the first part and of its second
 -- Assumes nothing.
-use mathlib.Core.Bool.{Bool, true, false}
 use mathlib.Core.List.{List, [], _∷_}
 use Prim.Native.Nat.{ℕ, _+_, _*_, _-_, _/_, _%_}
 use lib.Dec.{ltb}

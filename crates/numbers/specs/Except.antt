@@ -2,7 +2,6 @@
 --   split b n    the part's number of number n
 --   join b m     the number of the part's number m, which is not b
 -- Assumes nothing.
-use mathlib.Core.Bool.{Bool, true, false}
 use Prim.Native.Nat.{ℕ, _+_, _-_}
 use lib.Dec.{ltb}
 use Rattle.numbers.specs.Pick.{pick}

@@ -3,7 +3,6 @@
 --   join s t p     the number of a part's number
 --   PartBelow      a part's number is below that part's size
 -- Assumes nothing.
-use mathlib.Core.Bool.{Bool, true, false}
 use Prim.Native.Nat.{ℕ, _+_, _*_, _-_, _/_, _%_}
 use lib.Dec.{eqb, ltb, leb}
 use Rattle.numbers.specs.Pick.{pick}

@@ -4,7 +4,7 @@
 --   root n     the root, computed: twice the root of a quarter, or one more
 -- `proofs/root/Laws` has the theorem that root n is the only Root of n.
 -- Assumes nothing.
-use mathlib.Core.Bool.{Bool, true, false}
+use mathlib.Core.Bool.{true, false}
 use Prim.Native.Nat.{ℕ, zero, suc, _+_, _*_, _/_, _^_, _≤_, _<_}
 use lib.Dec.{leb, eqb}
 use Rattle.numbers.specs.Pick.{pick}

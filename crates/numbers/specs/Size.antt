@@ -6,7 +6,7 @@
 --   sizeOf, codeOf     a size in one machine word
 --   measured           a size's word, or past 2^62
 -- Assumes nothing.
-use mathlib.Core.Bool.{Bool, true, false}
+use mathlib.Core.Bool.{Bool, true}
 use Prim.Native.Nat.{ℕ, _+_, _*_, _-_, _^_, _<_}
 use lib.Dec.{ltb, leb}
 use Rattle.numbers.specs.Pick.{pick}

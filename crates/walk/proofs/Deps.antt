@@ -2,30 +2,29 @@
 --   Turning        the loop's invariant, and its turns
 --   turn-two       what dep's visit is, by the split of finite or endless seconds
 -- Assumes nothing.
-use mathlib.Core.Path.{_≡_, refl, sym, ap, _∙_}
-use mathlib.Core.Bool.{Bool, true, false, not, _||_, false≢true}
-use mathlib.Core.List.{List, [], _∷_, map}
-use Prim.Native.Nat.{ℕ, zero, suc, _+_, _*_, _-_, _^_, _≤_, _<_}
+use mathlib.Core.Path.{_≡_, sym, ap, _∙_}
+use mathlib.Core.Bool.{false}
+use mathlib.Core.List.{List, _∷_}
+use Prim.Native.Nat.{ℕ, suc, _+_, _-_, _^_, _≤_, _<_}
 use native.Mathlib.Nat.{add-zero}
 use native.Mathlib.Numerals.{add-one}
 use native.Mathlib.Omega.{arith}
-use lib.Dec.{ltb}
 use lib.ListN.{length, getD, take, drop, drop-of-length-le}
 use lib.Seq.{drop-cons}
 use borrow.Author.Tests.{lt-ltb, le-ltb}
-use Rattle.numbers.specs.Size.{Size, finite, endless, sizeOf}
+use Rattle.numbers.specs.Size.{endless}
 use Rattle.numbers.specs.Cons.{pair}
-use Rattle.numbers.specs.Dep.{Seconds, finites, endlesses, afterFirst, inTurn}
+use Rattle.numbers.specs.Dep.{endlesses, inTurn}
 use Rattle.numbers.specs.Dep
 use Rattle.numbers.specs.declared.cons.Pair.{Pair}
 use Rattle.numbers.proofs.size.Laws.{sized-finite}
 use Rattle.grammar.specs.Node.{dep}
-use Rattle.grammar.specs.Rows.{count, allEndless, isEndless, every}
+use Rattle.grammar.specs.Rows.{count, allEndless, isEndless}
 use Rattle.grammar.specs.Plan.{sizeIn}
 use Rattle.grammar.proofs.Runs.{run-long, run-at, wordAt, run-fails}
 use Rattle.grammar.proofs.Tests.{finite-word}
-use Rattle.walk.specs.Visit.{counts, secondsOf, depends, stepOf}
-use Rattle.walk.specs.Good.{firsts, secondSize, headSize, DepReady}
+use Rattle.walk.specs.Visit.{counts, secondsOf, stepOf}
+use Rattle.walk.specs.Good.{firsts, headSize, DepReady}
 use Rattle.walk.specs.declared.step.Step.the-variants.{Two}
 
 -- a pair whose first is k more

@@ -3,19 +3,17 @@
 --   leads-of   of what a node's visit finds
 -- Assumes nothing.
 use mathlib.Core.Path.{_≡_, refl, subst, ap, _∙_}
-use mathlib.Core.Bool.{Bool, true, false, _&&_, _||_}
+use mathlib.Core.Bool.{Bool, true, _&&_, _||_}
 use mathlib.Core.Logic.{_⊎_, inl, inr}
 use mathlib.Core.List.{List, [], _∷_}
-use Prim.Native.Nat.{ℕ, zero, suc, _+_, _-_, _*_, _^_, _≤_, _<_}
+use Prim.Native.Nat.{ℕ, zero, suc, _+_, _-_, _^_, _≤_, _<_}
 use native.Mathlib.Omega.{arith}
 use lib.Dec.{eqb, ltb, leb}
 use lib.ListN.{length, take, drop}
-use Rattle.numbers.specs.Pick.{pick}
-use Rattle.numbers.specs.Size.{Size}
 use Rattle.numbers.proofs.Tests.{pick-by}
 use Rattle.graph.specs.Ways.{has}
 use Rattle.grammar.specs.Node.{Node, below, nats, pool, shift, or, cons, dep, except, fix, again, unknown}
-use Rattle.grammar.specs.Rows.{few, seconds, total, allLower, allFinite, allEndless}
+use Rattle.grammar.specs.Rows.{few, total, allLower, allFinite, allEndless}
 use Rattle.grammar.specs.Rows.{count as countOf}
 use Rattle.grammar.proofs.Runs.{run-long}
 use Rattle.grammar.specs.declared.refusal.Refusal.{Refusal}
@@ -24,7 +22,7 @@ use Rattle.walk.specs.Grammar.{Grammar, planned, nodeIn}
 use Rattle.walk.specs.Reading.{Ahead, ends, fails, on, both, chosen, Become, same, turned, without, cellOf, fit, tagOf, placeOf, ahead}
 use Rattle.walk.specs.Look.{seen, Reading}
 use Rattle.walk.specs.Got.{SmallHow, becomes}
-use Rattle.walk.specs.Good.{Single, Fits, Walkable}
+use Rattle.walk.specs.Good.{Single, Fits}
 use Rattle.walk.specs.declared.look.Next.{Next}
 use Rattle.walk.specs.declared.number.How.{How}
 use Rattle.walk.specs.declared.number.How.the-variants.{Same, Turned, Without}

@@ -4,8 +4,7 @@
 -- Assumes nothing.
 use mathlib.Core.Path.{_≡_, subst, sym, _∙_}
 use mathlib.Core.List.{List}
-use Prim.Native.Nat.{ℕ, _+_, _^_, _≤_, _<_}
-use native.Mathlib.Omega.{arith}
+use Prim.Native.Nat.{ℕ, _+_, _^_, _≤_}
 use Rattle.walk.specs.Grammar.{planned, nodeIn}
 use Rattle.walk.specs.Visit.{visit}
 use Rattle.walk.specs.Good.{Single, Walkable, Visits}

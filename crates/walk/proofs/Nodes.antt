@@ -3,13 +3,13 @@
 --   pool-run, shift-.., or-.., cons-.., and of a dep its seconds: what the code of each kind needs
 -- Assumes nothing.
 use mathlib.Core.Path.{_≡_, refl, sym, subst}
-use mathlib.Core.Bool.{Bool, true, false, not, _||_, false≢true}
+use mathlib.Core.Bool.{true, false, not, _||_, false≢true}
 use mathlib.Core.List.{List}
 use Prim.Native.Nat.{ℕ, _+_, _*_, _^_, _≤_, _<_}
 use native.Mathlib.Nat.{add-zero}
 use native.Mathlib.Omega.{arith}
 use lib.ListN.{length, getD, take, drop}
-use Rattle.numbers.specs.Size.{Size, sizeOf, Some}
+use Rattle.numbers.specs.Size.{sizeOf, Some}
 use Rattle.numbers.proofs.size.Laws.{by-size}
 use Rattle.grammar.specs.Node.{nodeOf}
 use Rattle.grammar.specs.Rows.{few, isEndless, allFinite, allEndless, allLower, total}

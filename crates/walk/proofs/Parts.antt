@@ -4,16 +4,14 @@
 --   parts-of   of any visit in a good grammar
 --   single-of  a visit of a part that is one cell
 -- Assumes nothing.
-use mathlib.Core.Path.{_≡_, refl, sym, subst, ap, _∙_}
-use mathlib.Core.Bool.{Bool, true, false, _||_}
-use mathlib.Core.List.{List, [], _∷_}
-use Prim.Native.Nat.{ℕ, zero, suc, _+_, _^_, _≤_, _<_}
-use native.Mathlib.Nat.{not-suc-le-zero, le-of-suc-le-suc}
+use mathlib.Core.Path.{_≡_, refl, subst}
+use mathlib.Core.Bool.{true}
+use Prim.Native.Nat.{ℕ, _+_, _^_, _≤_, _<_}
 use native.Mathlib.Omega.{arith}
 use lib.Dec.{ltb}
-use lib.ListN.{length, getD, take, drop, length-take, length-drop}
-use borrow.Author.Tests.{ltb-true, leb-true}
-use Rattle.numbers.specs.Size.{Size, finite, endless, plus, times, less, Below, Some}
+use lib.ListN.{length, getD, length-take, length-drop}
+use borrow.Author.Tests.{ltb-true}
+use Rattle.numbers.specs.Size.{Size, finite, endless, plus, Below, Some}
 use Rattle.numbers.specs.Or
 use Rattle.numbers.specs.Or.{PartBelow, inPart}
 use Rattle.numbers.specs.Cons
@@ -26,7 +24,7 @@ use Rattle.numbers.proofs.cons.Laws as Conses
 use Rattle.numbers.proofs.dep.Laws as Deps
 use Rattle.numbers.proofs.except.Laws as Excepts
 use Rattle.grammar.specs.Node.{Node, below, nats, pool, shift, or, cons, dep, except, fix, again, unknown}
-use Rattle.grammar.specs.Rows.{few, seconds, total, allLower, allFinite, allEndless, every}
+use Rattle.grammar.specs.Rows.{few, seconds, total}
 use Rattle.grammar.specs.Rows.{count as countOf}
 use Rattle.grammar.proofs.Runs.{every-at}
 use Rattle.walk.specs.Grammar.{Grammar}

@@ -4,15 +4,14 @@
 --   seconds-second   the one at x is the node that word x names
 -- Assumes nothing.
 use mathlib.Core.Path.{_≡_, refl, sym, ap, _∙_}
-use mathlib.Core.Bool.{Bool, true, false, not, _&&_, _||_, false≢true}
-use mathlib.Core.List.{List, [], _∷_, map}
-use Prim.Native.Nat.{ℕ, zero, suc, _+_, _≤_, _<_}
+use mathlib.Core.Bool.{Bool, true, false, not, _||_, false≢true}
+use mathlib.Core.List.{List, [], _∷_}
+use Prim.Native.Nat.{ℕ, zero, suc, _<_}
 use native.Mathlib.Nat.{not-suc-le-zero, le-of-suc-le-suc}
-use native.Mathlib.Omega.{arith}
 use lib.ListN.{length, getD}
 use Rattle.numbers.specs.Pick.{pick}
 use Rattle.numbers.specs.Size.{Size, finite, endless, plus}
-use Rattle.numbers.specs.Dep.{Seconds, finites, endlesses, firsts, second}
+use Rattle.numbers.specs.Dep.{finites, endlesses, firsts, second}
 use Rattle.numbers.specs.Dep
 use Rattle.grammar.specs.Rows.{count, every, isEndless, allFinite, allEndless, total}
 use Rattle.grammar.proofs.Tests.{and-left, and-right}

@@ -5,9 +5,9 @@
 -- A number that is too big stays so: a join is at least its parts, and an except takes off one.
 -- Assumes nothing.
 use mathlib.Core.Path.{_≡_, refl, sym, ap, subst, _∙_}
-use mathlib.Core.Bool.{Bool, true, false}
+use mathlib.Core.Bool.{false}
 use mathlib.Core.List.{List}
-use Prim.Native.Nat.{ℕ, zero, suc, _+_, _-_, _^_, _≤_, _<_}
+use Prim.Native.Nat.{ℕ, zero, suc, _-_, _^_, _≤_, _<_}
 use native.Mathlib.Numerals.{sub-one}
 use native.Mathlib.Omega.{arith}
 use lib.Dec.{eqb, ltb}
@@ -27,7 +27,7 @@ use Rattle.grammar.specs.declared.refusal.Refusal.{Refusal}
 use Rattle.grammar.specs.declared.refusal.Refusal.the-variants.{TooDeep}
 use Rattle.walk.specs.Grammar.{Grammar, planned, nodeIn}
 use Rattle.walk.specs.Visit.{secondsOf}
-use Rattle.walk.specs.Reading.{Ahead, both, chosen, Read, read, wrong, ahead, become, then, follow, taken}
+use Rattle.walk.specs.Reading.{both, chosen, Read, read, wrong, ahead, become, then, follow, taken}
 use Rattle.walk.specs.Look.{seen}
 use Rattle.walk.specs.Got.{becomes, SmallHow, gotOf, grownOf, biggerOf, joinedBy, TookBy, Took}
 use Rattle.walk.specs.declared.look.Next.{Next}

@@ -6,11 +6,10 @@
 -- Assumes nothing.
 use mathlib.Core.Path.{_≡_, refl, sym, ap, _∙_}
 use mathlib.Core.List.{List, [], _∷_, _++_}
-use Prim.Native.Nat.{ℕ, zero, suc, _+_, _*_, _-_, _^_, _≤_, _<_}
+use Prim.Native.Nat.{ℕ, zero, suc, _+_, _*_, _-_, _^_, _≤_}
 use native.Mathlib.Numerals.{sub-one}
 use native.Mathlib.Omega.{arith}
-use lib.ListN.{length, getD, set}
-use Rattle.numbers.specs.Size.{Size, Below}
+use lib.ListN.{getD, set}
 use Rattle.grammar.specs.Node.{Node, below, nats, pool, shift, or, cons, dep, except, fix, again, unknown}
 use Rattle.walk.specs.Grammar.{Grammar}
 use Rattle.walk.specs.Visit.{stepOf, visit}
@@ -21,7 +20,7 @@ use Rattle.walk.specs.Good.{Single, Fits, Good}
 use Rattle.walk.specs.declared.step.Step.{Step}
 use Rattle.walk.specs.declared.tally.RoomLeft.{RoomLeft}
 use Rattle.walk.specs.declared.tally.RoomLeft.the-variants.{Left, TooDeep, NoRoom}
-use Rattle.walk.proofs.Parts.{Goes, Part1, parts-of}
+use Rattle.walk.proofs.Parts.{Goes}
 
 walk-at : (g : Grammar) (d i n : ℕ) → (d ≡ 0 → ⊥) → walk g d i n ≡ shown (walk g (d - 1)) (visit g i n)
 unfolding walk

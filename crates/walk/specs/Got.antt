@@ -9,7 +9,7 @@ use Prim.Native.Nat.{ℕ, _+_, _-_, _^_, _≤_, _<_}
 use lib.Dec.{eqb}
 use lib.ListN.{length, getD, take, drop}
 use Rattle.numbers.specs.Pick.{pick}
-use Rattle.numbers.specs.Size.{Size, sizeOf}
+use Rattle.numbers.specs.Size.{sizeOf}
 use Rattle.numbers.specs.Joined.{capped, limit}
 use Rattle.numbers.specs.Or.{turn}
 use Rattle.numbers.specs.Except
@@ -20,7 +20,6 @@ use Rattle.walk.specs.Visit.{counts}
 use Rattle.walk.specs.Good.{firsts, secondSize, headSize}
 use Rattle.numbers.specs.declared.joined.Joined.{Joined}
 use Rattle.numbers.specs.declared.joined.Joined.the-variants.{Exact, Big as Large}
-use Rattle.grammar.specs.declared.refusal.Refusal.{Refusal}
 use Rattle.grammar.specs.declared.refusal.Refusal.the-variants.{NotACase}
 use Rattle.walk.specs.Reading.{Become, same, turned, without, Read, read, wrong}
 use Rattle.walk.specs.declared.number.How.{How}

@@ -9,7 +9,6 @@ use mathlib.Core.List.{List}
 use Prim.Native.Nat.{ℕ, _-_, _<_}
 use lib.Dec.{ltb, leb}
 use lib.ListN.{length, getD, drop}
-use Rattle.numbers.specs.Size.{Size}
 use Rattle.grammar.specs.Rows.{seconds}
 use Rattle.grammar.specs.Plan.{sizeIn}
 use Rattle.walk.specs.Grammar.{nodeIn}

@@ -3,8 +3,7 @@
 --   secondsOf        a dep's seconds, by their sizes
 -- A step is a cell, a part at a number, a part at a number with k added to its cell, a tag and a part, or two parts.
 -- Assumes nothing.
-use mathlib.Core.Bool.{Bool, true, false}
-use mathlib.Core.List.{List, [], _∷_, map}
+use mathlib.Core.List.{List, map}
 use Prim.Native.Nat.{ℕ, _+_}
 use lib.ListN.{length, getD}
 use Rattle.numbers.specs.Pick.{pick}

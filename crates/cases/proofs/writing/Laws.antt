@@ -3,32 +3,31 @@
 --   visits-of               so the walk may be made
 --   wrote-13, wrote-14, wrote-done   by what the tally gave
 -- Assumes nothing.
-use mathlib.Core.Path.{_≡_, refl, sym, ap, _∙_}
+use mathlib.Core.Path.{_≡_, refl, sym, _∙_}
 use mathlib.Core.Bool.{Bool, true, false, _&&_}
 use mathlib.Core.List.{List, [], _∷_}
-use Prim.Native.Nat.{ℕ, zero, suc, _+_, _*_, _-_, _^_, _≤_, _<_, min}
+use Prim.Native.Nat.{ℕ, zero, suc, _+_, _*_, _-_, _^_, _≤_, _<_}
 use native.Mathlib.Omega.{arith}
 use lib.Dec.{ltb}
 use lib.ListN.{length, getD}
 use borrow.Author.Tests.{lt-ltb, le-ltb}
-use Rattle.numbers.specs.Size.{Size, finite, endless, sizeOf, codeOf, Below, below}
+use Rattle.numbers.specs.Size.{Size, finite, endless, codeOf, Below, below}
 use Rattle.numbers.proofs.size.Laws.{by-size}
 use Rattle.grammar.specs.Table.{nodes}
 use Rattle.grammar.specs.Sizes.{sizeAt, sizes}
-use Rattle.grammar.specs.Verdict.{verdict}
 use Rattle.grammar.specs.declared.refusal.Refusal.{Refusal}
 use Rattle.grammar.specs.declared.refusal.Refusal.the-variants.{NoSuchStart, NoSuchNumber, TooDeep, NoRoom}
 use Rattle.grammar.specs.declared.refusal.Verdict.{Verdict}
 use Rattle.grammar.specs.declared.refusal.Verdict.the-variants.{Accepted, Refused as Refuses}
-use Rattle.walk.specs.Grammar.{Grammar, grammarOf, planned}
+use Rattle.walk.specs.Grammar.{grammarOf, planned}
 use Rattle.walk.specs.Walk.{Event, cell, deep, walk, cells, depth}
-use Rattle.walk.specs.Room.{tallied, most}
-use Rattle.walk.specs.Filled.{over, Filled}
+use Rattle.walk.specs.Room.{tallied}
+use Rattle.walk.specs.Filled.{Filled}
 use Rattle.walk.specs.Good.{Visits}
 use Rattle.walk.specs.declared.tally.RoomLeft.{RoomLeft}
 use Rattle.walk.specs.declared.tally.RoomLeft.the-variants.{Left, TooDeep as Deep, NoRoom as Full}
 use Rattle.cases.specs.Prepared.{Planning, Prepared}
-use Rattle.cases.specs.Write.{asked, roomFor, outcome, walks, writes, leaves, Wrote, WrotePlanned}
+use Rattle.cases.specs.Write.{asked, roomFor, outcome, walks, writes, Wrote, WrotePlanned}
 use Rattle.cases.specs.declared.writing.Written.{Written}
 use Rattle.cases.specs.declared.writing.Written.the-variants.{Done, Refused}
 use Rattle.cases.proofs.Walking.{same-grammar, walkable}

@@ -1,11 +1,11 @@
 -- `cycles::has_again` looks for a node of kind again.
 -- Assumes nothing.
 use mathlib.Core.Path.{_≡_, sym}
-use mathlib.Core.Bool.{Bool, true, false, false≢true}
-use Prim.Native.Nat.{ℕ, _+_, _*_, _-_, _≤_, _<_}
+use mathlib.Core.Bool.{false≢true}
+use Prim.Native.Nat.{ℕ, _*_, _-_, _≤_, _<_}
 use native.Mathlib.Omega.{arith}
 use borrow.Author.Count.{below-none, below-more}
-use lib.ListN.{length, getD}
+use lib.ListN.{getD}
 use Rattle.cycles.proofs.has_again.Statement.{statement}
 use Rattle.cycles.proofs.has_again.Tie as tie
 

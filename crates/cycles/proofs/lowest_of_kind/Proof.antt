@@ -1,7 +1,7 @@
 -- `cycles::lowest_of_kind` asks the nodes of a kind, rising.
 -- Assumes nothing.
 use borrow.Author.Needs.{needs}
-use Prim.Native.Nat.{ℕ, _+_, _*_, _-_, _≤_, _<_}
+use Prim.Native.Nat.{_-_}
 use native.Mathlib.Omega.{arith}
 use Rattle.cycles.proofs.Table.{Passed, passed-none, passed-kind, passed-cycle, lowest-found, lowest-none}
 use Rattle.cycles.proofs.lowest_of_kind.Statement.{statement}

@@ -1,6 +1,6 @@
 -- `cycles::mark_run` marks the nodes of a run.
 -- Assumes nothing.
-use Prim.Native.Nat.{ℕ, _+_, _*_, _-_, _≤_, _<_}
+use Prim.Native.Nat.{_-_}
 use native.Mathlib.Omega.{arith}
 use Rattle.graph.proofs.Marks.{Run, run-none, run-more, run-all}
 use Rattle.cycles.proofs.mark_run.Statement.{statement}

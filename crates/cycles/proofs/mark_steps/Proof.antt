@@ -1,7 +1,6 @@
 -- `cycles::mark_steps` marks the nodes that a node names.
 -- Assumes nothing.
 use borrow.Author.Needs.{needs}
-use mathlib.Core.Path.{_∙_}
 use native.Mathlib.Omega.{arith}
 use Rattle.cycles.proofs.Steps.{a-few, kind-few, or-few, cons-few, run-in, seconds-few, mark-low, mark-or, mark-or-first, mark-cons, mark-dep, mark-rest}
 use Rattle.cycles.proofs.mark_steps.Statement.{statement}

@@ -5,10 +5,9 @@
 --   split-join    split undoes join
 --   join-least    no join gives less than a part's number, where no second is empty
 -- Assumes nothing.
-use mathlib.Core.Path.{_≡_, refl, ap}
-use mathlib.Core.Bool.{Bool, true, false}
+use mathlib.Core.Path.{_≡_}
 use mathlib.Core.List.{List, [], _∷_}
-use Prim.Native.Nat.{ℕ, zero, suc, _+_, _*_, _-_, _/_, _%_, _≤_, _<_}
+use Prim.Native.Nat.{ℕ, zero, suc, _+_, _-_, _≤_, _<_}
 use native.Mathlib.Nat.{mod-lt, div-add-mod', mul-le-mul}
 use native.Mathlib.Numerals.{add-one}
 use native.Mathlib.Omega.{arith}
@@ -16,8 +15,7 @@ use lib.Arith.{digits-div, digits-mod}
 use lib.Dec.{ltb}
 use lib.ListN.{length, getD, take}
 use borrow.Author.Tests.{ltb-true, ltb-false, lt-ltb, le-ltb}
-use Rattle.numbers.specs.Pick.{pick}
-use Rattle.numbers.specs.Size.{Size, finite, endless, Below, Some}
+use Rattle.numbers.specs.Size.{Below, Some}
 use Rattle.numbers.specs.Cons.{pair}
 use Rattle.numbers.specs.Dep.{Seconds, finites, endlesses, total, size, firsts, second, afterFirst, inTurn, split, join}
 use Rattle.numbers.specs.declared.cons.Pair.{Pair}

@@ -12,7 +12,7 @@ use native.Mathlib.Nat.{lt-div-mul-add, div-lt-iff-lt-mul, mul-le-mul}
 use native.Mathlib.Omega.{arith}
 use lib.Dec.{leb}
 use borrow.Author.Tests.{leb-true, leb-false}
-use Rattle.numbers.specs.Root.{Root, Above, root}
+use Rattle.numbers.specs.Root.{Above, root}
 use Rattle.numbers.proofs.root.Laws.{root-is, root-one}
 
 -- four times a product is at most the square of the sum

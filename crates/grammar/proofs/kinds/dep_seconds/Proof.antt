@@ -1,7 +1,6 @@
 -- `grammar::kinds::dep_seconds` is the row of a dep's seconds.
 -- Assumes nothing.
 use borrow.Author.Needs.{needs}
-use Rattle.grammar.specs.Plan.{sizeIn}
 use Rattle.grammar.proofs.Runs.{finite-run}
 use Rattle.grammar.proofs.Sums.{seconds-finite, seconds-endless, seconds-mixed}
 use Rattle.grammar.proofs.kinds.dep_seconds.Statement.{statement}

@@ -1,6 +1,6 @@
 -- `grammar::loops::all_different` compares each word of a run with those after it.
 -- Assumes nothing.
-use Prim.Native.Nat.{ℕ, _+_, _*_, _-_, _^_, _≤_, _<_}
+use Prim.Native.Nat.{_-_}
 use native.Mathlib.Omega.{arith}
 use Rattle.grammar.proofs.Repeats.{Differing, differ-none, differ-hit, differ-more, differ-end}
 use Rattle.grammar.proofs.loops.all_different.Statement.{statement}

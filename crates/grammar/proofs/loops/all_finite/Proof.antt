@@ -1,6 +1,6 @@
 -- `grammar::loops::all_finite` tests the size of every node that a run names.
 -- Assumes nothing.
-use Prim.Native.Nat.{ℕ, _+_, _*_, _-_, _^_, _≤_, _<_}
+use Prim.Native.Nat.{_-_, _^_, _<_}
 use native.Mathlib.Omega.{arith}
 use Rattle.grammar.proofs.Runs.{Upto, upto-none, upto-more, wordAt, finite-done, finite-not}
 use Rattle.grammar.proofs.loops.all_finite.Statement.{statement}

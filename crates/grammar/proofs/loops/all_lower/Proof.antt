@@ -1,6 +1,6 @@
 -- `grammar::loops::all_lower` tests every word of a run.
 -- Assumes nothing.
-use Prim.Native.Nat.{ℕ, _+_, _*_, _-_, _^_, _≤_, _<_}
+use Prim.Native.Nat.{_+_, _-_, _<_}
 use native.Mathlib.Omega.{arith}
 use lib.ListN.{getD}
 use Rattle.grammar.proofs.Runs.{Upto, upto-none, upto-more, lower-done, lower-not}

@@ -1,6 +1,6 @@
 -- `grammar::loops::among` looks for a word in a run.
 -- Assumes nothing.
-use Prim.Native.Nat.{ℕ, _+_, _*_, _-_, _^_, _≤_, _<_}
+use Prim.Native.Nat.{_-_}
 use native.Mathlib.Omega.{arith}
 use Rattle.grammar.proofs.Repeats.{Among, among-all, among-hit, among-more, among-none}
 use Rattle.grammar.proofs.loops.among.Statement.{statement}

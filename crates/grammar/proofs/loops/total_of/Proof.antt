@@ -1,6 +1,6 @@
 -- `grammar::loops::total_of` is the sum of finite sizes, or past 2^62.
 -- Assumes nothing.
-use Prim.Native.Nat.{ℕ, _+_, _*_, _-_, _^_, _≤_, _<_}
+use Prim.Native.Nat.{_-_}
 use native.Mathlib.Omega.{arith}
 use Rattle.grammar.proofs.Sums.{Summing, sum-none, sum-more, sum-past, sum-end}
 use Rattle.grammar.proofs.loops.total_of.Statement.{statement}

@@ -1,7 +1,6 @@
 -- `grammar::plan::weigh` is the row of node n.
 -- Assumes nothing.
 use borrow.Author.Needs.{needs}
-use Rattle.grammar.proofs.Tests.{tests}
 use Rattle.grammar.specs.Rows.{further, rowAt}
 use Rattle.grammar.specs.Plan.{coded}
 use Rattle.grammar.proofs.ByKind.{known-is, unknown-is}

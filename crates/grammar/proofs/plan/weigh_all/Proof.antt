@@ -1,7 +1,7 @@
 -- `grammar::plan::weigh_all` goes through the nodes, rising.
 -- Assumes nothing.
 use borrow.Author.Needs.{needs}
-use Prim.Native.Nat.{ℕ, _+_, _*_, _-_, _^_, _≤_, _<_}
+use Prim.Native.Nat.{_-_}
 use native.Mathlib.Omega.{arith}
 use Rattle.grammar.proofs.Scan.{Weighing, weighing-none, weighing-more, weighing-fault, weighing-end}
 use Rattle.grammar.proofs.plan.weigh_all.Statement.{statement}

@@ -1,11 +1,11 @@
 -- `numbers::cons::join` is the rule of cons, turned round and capped.
 -- Assumes nothing.
 use borrow.Author.Needs.{needs}
-use mathlib.Core.Path.{_≡_, refl, ap, _∙_}
+use mathlib.Core.Path.{_≡_}
 use Prim.Native.Nat.{ℕ, _+_, _*_, _^_, _≤_, _<_}
 use native.Mathlib.Omega.{arith}
 use borrow.Author.Tests.{lt-ltb, le-ltb}
-use Rattle.numbers.specs.Size.{finite, endless, sizeOf}
+use Rattle.numbers.specs.Size.{endless, sizeOf}
 use Rattle.numbers.specs.Cons.{join}
 use Rattle.numbers.specs.declared.joined.Joined.{Joined}
 use Rattle.numbers.proofs.cons.Arms.{first-fast, second-fast, both-endless}

@@ -1,11 +1,11 @@
 -- `numbers::cons::split` is the rule of cons.
 -- Assumes nothing.
 use borrow.Author.Needs.{needs}
-use mathlib.Core.Path.{_≡_, refl, ap, _∙_}
+use mathlib.Core.Path.{_≡_, refl}
 use Prim.Native.Nat.{ℕ, _/_, _%_, _^_, _≤_, _<_}
 use native.Mathlib.Omega.{arith}
 use borrow.Author.Tests.{lt-ltb, le-ltb}
-use Rattle.numbers.specs.Size.{finite, endless, sizeOf}
+use Rattle.numbers.specs.Size.{endless, sizeOf}
 use Rattle.numbers.specs.Cons.{pair, split}
 use Rattle.numbers.specs.declared.cons.Pair.{Pair}
 use Rattle.numbers.proofs.cons.Arms.{first-fast, second-fast, both-endless}

@@ -1,9 +1,8 @@
 -- `numbers::cons::split_square` is the rule of cons for two endless parts.
 -- Assumes nothing.
 use borrow.Author.Needs.{needs}
-use mathlib.Core.Path.{_≡_, ap}
-use Prim.Native.Nat.{ℕ, _*_, _-_, _^_, _≤_, _<_}
-use native.Mathlib.Nat.{mul-le-mul}
+use mathlib.Core.Path.{_≡_}
+use Prim.Native.Nat.{ℕ, _*_, _-_, _≤_, _<_}
 use native.Mathlib.Omega.{arith}
 use borrow.Author.Tests.{lt-ltb, le-ltb}
 use Rattle.numbers.specs.Size.{endless}

@@ -1,11 +1,11 @@
 -- `numbers::or::alternating` says which part comes at n while they alternate.
 -- Assumes nothing.
-use mathlib.Core.Path.{_≡_, ap, sym}
+use mathlib.Core.Path.{_≡_}
 use Prim.Native.Nat.{ℕ, _-_, _/_, _%_}
 use native.Mathlib.Omega.{arith}
 use borrow.Author.Tests.{ne-eqb}
 use Rattle.numbers.specs.Or.{alternate}
-use Rattle.numbers.specs.declared.or.Part.the-variants.{First, Second}
+use Rattle.numbers.specs.declared.or.Part.the-variants.{Second}
 use Rattle.numbers.proofs.or.alternating.Statement.{statement}
 use Rattle.numbers.proofs.or.alternating.Tie as tie
 

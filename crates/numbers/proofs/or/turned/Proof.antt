@@ -2,10 +2,10 @@
 -- Assumes nothing.
 use borrow.Author.Needs.{needs}
 use mathlib.Core.Path.{_≡_, refl, ap, _∙_}
-use Prim.Native.Nat.{ℕ, _+_, _*_, _^_, _≤_, _<_}
+use Prim.Native.Nat.{ℕ, _+_, _*_, _≤_, _<_}
 use native.Mathlib.Omega.{arith}
 use borrow.Author.Tests.{lt-ltb, le-ltb}
-use Rattle.numbers.specs.Size.{Size, finite, endless, sizeOf}
+use Rattle.numbers.specs.Size.{Size, sizeOf}
 use Rattle.numbers.specs.Joined.{capped, limit}
 use Rattle.numbers.specs.Or.{turn}
 use Rattle.numbers.proofs.joined.Laws.{is-big}

@@ -1,6 +1,5 @@
 -- `numbers::root::root_of` is the whole square root. While it is above the root, a step gives less and stays above.
 -- Assumes nothing.
-use mathlib.Core.Path.{refl}
 use native.Mathlib.Omega.{arith}
 use Rattle.numbers.specs.Root.{Above, rootBy, root}
 use Rattle.numbers.proofs.root.Newton.{above-zero, step-below, small-square, stepped, quotient-below, met}

@@ -1,6 +1,6 @@
 -- `numbers::root::step_above` is the root or more, from any guess.
 -- Assumes nothing.
-use Prim.Native.Nat.{ℕ, _/_, _<_, _≤_, _^_}
+use Prim.Native.Nat.{ℕ, _/_, _<_, _^_}
 use native.Mathlib.Nat.{div-lt-iff-lt-mul}
 use native.Mathlib.Omega.{arith}
 use Rattle.numbers.proofs.root.Newton.{step-above, most-above}

@@ -1,6 +1,6 @@
 -- `walk::look::place_of` looks for a word in a run.
 -- Assumes nothing.
-use Prim.Native.Nat.{ℕ, _+_, _*_, _-_, _^_, _≤_, _<_}
+use Prim.Native.Nat.{_-_}
 use native.Mathlib.Omega.{arith}
 use Rattle.walk.proofs.Looks.{Placing, placing-none, placing-found, placing-more, placing-end}
 use Rattle.walk.proofs.look.place_of.Statement.{statement}

@@ -2,8 +2,7 @@
 -- Assumes nothing.
 use borrow.Author.Needs.{needs}
 use mathlib.Core.Path.{subst}
-use native.Mathlib.Omega.{arith}
-use Rattle.walk.specs.Got.{gotOf, grownOf, SmallHow}
+use Rattle.walk.specs.Got.{grownOf, SmallHow}
 use Rattle.walk.proofs.number.grown.Statement.{statement}
 use Rattle.walk.proofs.number.grown.Tie as tie
 

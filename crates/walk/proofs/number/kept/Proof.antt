@@ -2,7 +2,7 @@
 -- Assumes nothing.
 use borrow.Author.Needs.{needs}
 use borrow.Author.Tests.{eq-eqb, ne-eqb}
-use Rattle.walk.specs.Got.{gotOf, grownOf}
+use Rattle.walk.specs.Got.{grownOf}
 use Rattle.walk.proofs.number.kept.Statement.{statement}
 use Rattle.walk.proofs.number.kept.Tie as tie
 

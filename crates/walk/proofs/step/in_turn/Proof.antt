@@ -1,6 +1,6 @@
 -- `walk::step::in_turn` goes through finite seconds, one after the other.
 -- Assumes nothing.
-use Prim.Native.Nat.{ℕ, _+_, _*_, _-_, _^_, _≤_, _<_}
+use Prim.Native.Nat.{_-_}
 use native.Mathlib.Omega.{arith}
 use Rattle.walk.proofs.Deps.{Turning, turning-none, turning-found, turning-more, turning-end}
 use Rattle.walk.proofs.step.in_turn.Statement.{statement}
