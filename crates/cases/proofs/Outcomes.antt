@@ -1,12 +1,15 @@
 -- What is known by the answer of `write`.
 --   written-fits    the answer Done: no more cells than words were lent
+--   written-cells   the words that it counts are the case's cells
+--   same-cells      so they depend on the table, the pool, the start and the number alone, not on what the buffer held
 -- Assumes nothing.
-use mathlib.Core.Path.{_≡_, sym, subst, _∙_}
-use mathlib.Core.List.{List}
+use mathlib.Core.Path.{_≡_, refl, sym, ap, subst, _∙_}
+use mathlib.Core.List.{List, [], _∷_}
 use Prim.Native.Nat.{ℕ, _≤_}
+use native.Mathlib.Nat.{not-suc-le-zero, le-of-suc-le-suc}
 use native.Mathlib.Omega.{arith}
 use lib.Dec.{ltb}
-use lib.ListN.{length}
+use lib.ListN.{length, take}
 use Rattle.numbers.proofs.Tests.{pick-by}
 use Rattle.grammar.specs.Table.{nodes}
 use Rattle.grammar.specs.Sizes.{sizeAt, sizes}
@@ -14,39 +17,65 @@ use Rattle.grammar.specs.Verdict.{verdict}
 use Rattle.grammar.specs.declared.refusal.Verdict.{Verdict}
 use Rattle.grammar.specs.declared.refusal.Verdict.the-variants.{Accepted, Refused as Refuses}
 use Rattle.walk.specs.Grammar.{grammarOf}
-use Rattle.walk.specs.Walk.{walk, depth}
+use Rattle.walk.specs.Walk.{Event, walk, cells, depth}
 use Rattle.walk.specs.Room.{tallied}
+use Rattle.walk.specs.Filled.{over}
 use Rattle.walk.specs.declared.tally.RoomLeft.{RoomLeft}
 use Rattle.walk.specs.declared.tally.RoomLeft.the-variants.{Left, TooDeep, NoRoom}
-use Rattle.cases.specs.Write.{asked, roomFor, outcome, judged, walks, writes, Wrote}
+use Rattle.cases.specs.Write.{asked, roomFor, outcome, judged, walks, writes, leaves, Wrote}
 use Rattle.cases.specs.declared.writing.Written.{Written}
 use Rattle.cases.specs.declared.writing.Written.the-variants.{Done, Refused}
+use Rattle.cases.proofs.writing.Laws.{tally-count}
 
--- the count of an answer is within a room
-abbrev Fits : ℕ → Written → Type 0
-Fits room (Done count) = count ≤ room
-Fits room (Refused r k) = Unit {0}
+-- the count of an answer is within a room, and is that of the cells
+abbrev Tells : ℕ → List ℕ → Written → Type 0
+Tells room cs (Done count) = (count ≤ room) × (count ≡ length cs)
+Tells room cs (Refused r k) = Unit {0}
 
-outcome-fits : (room : ℕ) (x : RoomLeft) → Fits room (outcome (roomFor room) x)
-outcome-fits room (Left rest) = omega arith
-outcome-fits room TooDeep = tt
-outcome-fits room NoRoom = tt
+outcome-tells : (room : ℕ) (es : List Event) (x : RoomLeft) → tallied (roomFor room) es ≡ x → Tells room (cells es) (outcome (roomFor room) x)
+outcome-tells room es (Left rest) e = let c = tally-count (roomFor room) es e in (omega arith, omega arith)
+outcome-tells room es TooDeep e = tt
+outcome-tells room es NoRoom e = tt
 
-judged-fits : (room : ℕ) (v : Verdict) (w : Written) → Fits room w → Fits room (judged v w)
-judged-fits room Accepted w h = h
-judged-fits room (Refuses r k) w h = tt
+judged-tells : (room : ℕ) (cs : List ℕ) (v : Verdict) (w : Written) → Tells room cs w → Tells room cs (judged v w)
+judged-tells room cs Accepted w h = h
+judged-tells room cs (Refuses r k) w h = tt
 
 module _ (t p : List ℕ) (i n room : ℕ) where
-  walks-fits : Fits room (walks t p i n room)
+  abbrev es : List Event
+  es = walk (grammarOf t p) depth i n
+
+  walks-tells : Tells room (cells es) (walks t p i n room)
   unfolding walks
-  walks-fits =
-      let walked = outcome-fits room (tallied (roomFor room) (walk (grammarOf t p) depth i n)) in
-      pick-by (Fits room) (ltb i (nodes t)) (λ _. pick-by (Fits room) (asked (sizeAt (sizes t p) i) n) (λ _. walked) (λ _. tt)) (λ _. tt)
+  walks-tells =
+      let walked = outcome-tells room es (tallied (roomFor room) es) refl in
+      let P = Tells room (cells es) in
+      pick-by P (ltb i (nodes t)) (λ _. pick-by P (asked (sizeAt (sizes t p) i) n) (λ _. walked) (λ _. tt)) (λ _. tt)
 
-  writes-fits : Fits room (writes t p i n room)
+  writes-tells : Tells room (cells es) (writes t p i n room)
   unfolding writes
-  writes-fits = judged-fits room (verdict t p) (walks t p i n room) walks-fits
+  writes-tells = judged-tells room (cells es) (verdict t p) (walks t p i n room) walks-tells
 
-pub written-fits : {t p : List ℕ} {i n : ℕ} {old last : List ℕ} {r : Written} (k : Wrote t p i n old last r) (count : ℕ)
-    → r ≡ Done count → count ≤ length old
-written-fits {t} {p} {i} {n} {old} k count e = subst (Fits (length old)) (sym (k .is) ∙ e) (writes-fits t p i n (length old))
+-- a list over the front of a buffer that is long enough
+over-front : (cs old : List ℕ) → length cs ≤ length old → take (length cs) (over cs old) ≡ cs
+unfolding over
+over-front [] old l = refl
+over-front (c ∷ cs) [] l = absurd (not-suc-le-zero l)
+over-front (c ∷ cs) (o ∷ old) l = ap (λ (xs : List ℕ). c ∷ xs) (over-front cs old (le-of-suc-le-suc l))
+
+module _ {t p : List ℕ} {i n : ℕ} {old last : List ℕ} {r : Written} (k : Wrote t p i n old last r) (count : ℕ) (e : r ≡ Done count) where
+  tells : (count ≤ length old) × (count ≡ length (cells (walk (grammarOf t p) depth i n)))
+  tells = subst (Tells (length old) (cells (walk (grammarOf t p) depth i n))) (sym (k .is) ∙ e) (writes-tells t p i n (length old))
+
+  pub written-fits : count ≤ length old
+  written-fits = tells .0
+
+  pub written-cells : take count last ≡ cells (walk (grammarOf t p) depth i n)
+  written-cells =
+      let cs = cells (walk (grammarOf t p) depth i n) in
+      let holds : last ≡ over cs old = k .holds ∙ ap (λ (w : Written). leaves w cs old) e in
+      rw (holds, tells .1) (over-front cs old (omega (arith, tells .0, tells .1)))
+
+pub same-cells : {t p : List ℕ} {i n : ℕ} {old last old' last' : List ℕ} {r r' : Written} → Wrote t p i n old last r → Wrote t p i n old' last' r'
+    → (count count' : ℕ) → r ≡ Done count → r' ≡ Done count' → take count last ≡ take count' last'
+same-cells k k' count count' e e' = written-cells k count e ∙ sym (written-cells k' count' e')
