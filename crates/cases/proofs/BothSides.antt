@@ -30,8 +30,10 @@ use Rattle.cases.specs.Write.{writes}
 use Rattle.cases.specs.declared.reading.Found.the-variants.{Number}
 use Rattle.cases.specs.declared.writing.Written.the-variants.{Done}
 use Rattle.cases.proofs.Meaning.{accepted-passes, accepted-checked}
-use Rattle.cases.proofs.Walking.{good-of}
-use Rattle.cases.proofs.Doors.{Asked, cells-map, reads-is, found-number, number-found, writes-is, writes-done}
+use Rattle.checked.proofs.Walking.{good-of}
+use Rattle.checked.specs.Fits.{Asked}
+use Rattle.checked.proofs.Fitted.{cells-map}
+use Rattle.cases.proofs.Doors.{reads-is, found-number, number-found, writes-is, writes-done}
 
 module _ (t p : List ℕ) (a : verdict t p ≡ Accepted) (i : ℕ) (l : i < nodes t) where
   good : Good (grammarOf t p) (nodes t)

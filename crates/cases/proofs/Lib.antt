@@ -1,9 +1,13 @@
--- What the proofs of the calls cite, what the check's verdict means, what is known by an answer, and worked cases.
-pub mod Preparing
-pub mod Walking
+-- What the proofs of the calls cite, what the check's verdict means, what is known by an answer, worked cases, and that every walk of an accepted table ends.
 pub mod Meaning
 pub mod Outcomes
 pub mod Doors
 pub mod BothSides
 pub mod Worked
 pub mod WorkedCases
+pub mod Counts
+pub mod Ranks
+pub mod Descent
+pub mod Wholes
+pub mod Falling
+pub mod Ends

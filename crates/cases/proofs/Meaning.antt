@@ -33,7 +33,7 @@ use Rattle.grammar.specs.declared.refusal.Verdict.the-variants.{Accepted, Refus
 use Rattle.grammar.proofs.Tests.{and-left, and-right}
 use Rattle.grammar.proofs.Scan.{scan-sound, scan-size}
 use Rattle.cycles.proofs.Table.{graph, unguarded-is, except-is, cycles-by}
-use Rattle.cases.proofs.Preparing.{refused-not}
+use Rattle.checked.proofs.Preparing.{refused-not}
 
 -- the tests of lengths, as facts
 pub lengths-mean : (t p : List ℕ) → lengths t p ≡ true → (length t ≡ 3 * nodes t) × (nodes t ≤ 256)

@@ -12,30 +12,28 @@ use lib.Dec.{ltb}
 use lib.ListN.{length, take}
 use Rattle.numbers.proofs.Tests.{pick-by}
 use Rattle.grammar.specs.Table.{nodes}
-use Rattle.grammar.specs.Sizes.{sizeAt, sizes}
 use Rattle.grammar.specs.Verdict.{verdict}
 use Rattle.grammar.specs.declared.refusal.Verdict.{Verdict}
 use Rattle.grammar.specs.declared.refusal.Verdict.the-variants.{Accepted, Refused as Refuses}
-use Rattle.walk.specs.Grammar.{grammarOf}
+use Rattle.walk.specs.Grammar.{Grammar, grammarOf}
 use Rattle.walk.specs.Walk.{Event, walk, cells, depth}
-use Rattle.walk.specs.Room.{tallied}
 use Rattle.walk.specs.Filled.{over}
-use Rattle.walk.specs.declared.tally.RoomLeft.{RoomLeft}
-use Rattle.walk.specs.declared.tally.RoomLeft.the-variants.{Left, TooDeep, NoRoom}
-use Rattle.cases.specs.Write.{asked, roomFor, outcome, judged, walks, writes, leaves, Wrote}
+use Rattle.checked.specs.Fits.{fitted}
+use Rattle.checked.specs.declared.fits.Fit.{Fit}
+use Rattle.checked.specs.declared.fits.Fit.the-variants.{Cells, Not}
+use Rattle.checked.proofs.Fitted.{fitted-cells}
+use Rattle.cases.specs.Write.{wrote, judged, walks, writes, leaves, Wrote}
 use Rattle.cases.specs.declared.writing.Written.{Written}
 use Rattle.cases.specs.declared.writing.Written.the-variants.{Done, Refused}
-use Rattle.cases.proofs.writing.Laws.{tally-count}
 
 -- the count of an answer is within a room, and is that of the cells
 abbrev Tells : ℕ → List ℕ → Written → Type 0
 Tells room cs (Done count) = (count ≤ room) × (count ≡ length cs)
 Tells room cs (Refused r k) = Unit {0}
 
-outcome-tells : (room : ℕ) (es : List Event) (x : RoomLeft) → tallied (roomFor room) es ≡ x → Tells room (cells es) (outcome (roomFor room) x)
-outcome-tells room es (Left rest) e = let c = tally-count (roomFor room) es e in (omega arith, omega arith)
-outcome-tells room es TooDeep e = tt
-outcome-tells room es NoRoom e = tt
+fit-tells : (g : Grammar) (i n room : ℕ) (f : Fit) → fitted g i n room ≡ f → Tells room (cells (walk g depth i n)) (wrote f)
+fit-tells g i n room (Cells k) e = let (a, s, c, w) = fitted-cells g i n room k e in (omega arith, omega arith)
+fit-tells g i n room (Not r) e = tt
 
 judged-tells : (room : ℕ) (cs : List ℕ) (v : Verdict) (w : Written) → Tells room cs w → Tells room cs (judged v w)
 judged-tells room cs Accepted w h = h
@@ -47,10 +45,7 @@ module _ (t p : List ℕ) (i n room : ℕ) where
 
   walks-tells : Tells room (cells es) (walks t p i n room)
   unfolding walks
-  walks-tells =
-      let walked = outcome-tells room es (tallied (roomFor room) es) refl in
-      let P = Tells room (cells es) in
-      pick-by P (ltb i (nodes t)) (λ _. pick-by P (asked (sizeAt (sizes t p) i) n) (λ _. walked) (λ _. tt)) (λ _. tt)
+  walks-tells = pick-by (Tells room (cells es)) (ltb i (nodes t)) (λ _. fit-tells (grammarOf t p) i n room (fitted (grammarOf t p) i n room) refl) (λ _. tt)
 
   writes-tells : Tells room (cells es) (writes t p i n room)
   unfolding writes

@@ -25,6 +25,7 @@ use Rattle.walk.specs.Walk.{raised, shown, walk, depth}
 use Rattle.walk.specs.Walk
 use Rattle.walk.specs.Room.{tallied}
 use Rattle.walk.specs.Reading.{cellOf, placeOf, ahead, become, follow, taken}
+use Rattle.checked.specs.Fits.{fitted}
 use Rattle.cases.specs.Write.{walks, writes, WriteAnswer, written}
 use Rattle.cases.specs.Read.{found, finds, reads, ReadAnswer, readOf}
 use Rattle.cases.proofs.Worked.{L}
@@ -98,5 +99,5 @@ cases =
     ∷ []
 
 pub worked : map asked cases ≡ map expected cases
-unfolding asked expected plus times less rootBy root Or.split Or.join Cons.split Cons.join inTurn Dep.split Dep.join Dep.total Except.split Except.join has via lowest numberOf nodeOf usesA usesB row different every total belowRow natsRow poolRow shiftRow orRow consRow secondsRow further depRow exceptRow fixRow againRow rowOf rowAt onward scan sizes steps leads unguarded exceptOnCycle cycles settled verdict secondsOf stepOf raised shown walk Walk.cells tallied cellOf placeOf ahead become follow taken walks writes written found finds reads readOf
+unfolding asked expected plus times less rootBy root Or.split Or.join Cons.split Cons.join inTurn Dep.split Dep.join Dep.total Except.split Except.join has via lowest numberOf nodeOf usesA usesB row different every total belowRow natsRow poolRow shiftRow orRow consRow secondsRow further depRow exceptRow fixRow againRow rowOf rowAt onward scan sizes steps leads unguarded exceptOnCycle cycles settled verdict secondsOf stepOf raised shown walk Walk.cells tallied fitted cellOf placeOf ahead become follow taken walks writes written found finds reads readOf
 worked = refl

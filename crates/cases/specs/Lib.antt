@@ -1,4 +1,3 @@
 -- What the public calls on one case promise.
-pub mod Prepared
 pub mod Write
 pub mod Read

@@ -4,42 +4,29 @@
 --   written    01's number, node and count of an answer
 -- Assumes nothing.
 use mathlib.Core.Path.{_≡_}
-use mathlib.Core.Bool.{Bool, _&&_}
 use mathlib.Core.List.{List}
-use Prim.Native.Nat.{ℕ, _-_, _^_, min}
+use Prim.Native.Nat.{ℕ}
 use lib.Dec.{ltb}
 use lib.ListN.{length}
 use Rattle.numbers.specs.Pick.{pick}
-use Rattle.numbers.specs.Size.{Size, below}
 use Rattle.grammar.specs.Table.{nodes}
-use Rattle.grammar.specs.Sizes.{sizeAt, sizes}
 use Rattle.grammar.specs.Refusals.{numberOf}
 use Rattle.grammar.specs.Verdict.{verdict}
-use Rattle.grammar.specs.declared.refusal.Refusal.the-variants.{NoSuchStart, NoSuchNumber, TooDeep, NoRoom}
+use Rattle.grammar.specs.declared.refusal.Refusal.the-variants.{NoSuchStart}
 use Rattle.grammar.specs.declared.refusal.Verdict.{Verdict}
 use Rattle.grammar.specs.declared.refusal.Verdict.the-variants.{Accepted, Refused as Refuses}
 use Rattle.walk.specs.Grammar.{grammarOf}
 use Rattle.walk.specs.Walk.{walk, cells, depth}
-use Rattle.walk.specs.Room.{tallied, most}
 use Rattle.walk.specs.Filled.{over}
-use Rattle.walk.specs.declared.tally.RoomLeft.{RoomLeft}
-use Rattle.walk.specs.declared.tally.RoomLeft.the-variants.{Left, TooDeep as Deep, NoRoom as Full}
+use Rattle.checked.specs.Fits.{fitted}
+use Rattle.checked.specs.declared.fits.Fit.{Fit}
+use Rattle.checked.specs.declared.fits.Fit.the-variants.{Cells, Not}
 use Rattle.cases.specs.declared.writing.Written.{Written}
 use Rattle.cases.specs.declared.writing.Written.the-variants.{Done, Refused}
 
--- "Numbers asked for are below 2^62 and below the size."
-abbrev pub asked : Size → ℕ → Bool
-asked s n = below n s && ltb n (2 ^ 62)
-
--- "a longer buffer to write into counts as that long for one case"
-abbrev pub roomFor : ℕ → ℕ
-roomFor room = min room most
-
--- what is left of the room says how many cells there are
-abbrev pub outcome : ℕ → RoomLeft → Written
-outcome room (Left rest) = Done (room - rest)
-outcome room Deep = Refused TooDeep 0
-outcome room Full = Refused NoRoom 0
+abbrev pub wrote : Fit → Written
+wrote (Cells k) = Done k
+wrote (Not r) = Refused r 0
 
 abbrev pub judged : Verdict → Written → Written
 judged Accepted w = w
@@ -47,11 +34,7 @@ judged (Refuses r k) w = Refused r k
 
 -- 11, then 12, then the walk
 unfoldable pub walks : List ℕ → List ℕ → ℕ → ℕ → ℕ → Written
-walks t p i n room =
-    pick (ltb i (nodes t))
-    (pick (asked (sizeAt (sizes t p) i) n) (outcome (roomFor room) (tallied (roomFor room) (walk (grammarOf t p) depth i n)))
-    (Refused NoSuchNumber 0))
-    (Refused NoSuchStart 0)
+walks t p i n room = pick (ltb i (nodes t)) (wrote (fitted (grammarOf t p) i n room)) (Refused NoSuchStart 0)
 
 unfoldable pub writes : List ℕ → List ℕ → ℕ → ℕ → ℕ → Written
 writes t p i n room = judged (verdict t p) (walks t p i n room)

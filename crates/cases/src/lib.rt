@@ -1,5 +1,4 @@
 // The public calls on one case. No call relies on an earlier check: each checks its table first.
-mod prepared;
 mod reading;
 mod writing;
 
@@ -9,6 +8,7 @@ pub use writing::Written;
 pub use writing::write;
 ghost use mathlib.Core.Path.{_≡_};
 ghost use Rattle.grammar.specs.Verdict.{verdict};
+use checked::prepared::prepare;
 use grammar::refusal::Verdict;
 
 // Whether a table is a grammar: accepted, or the refusal and its node.
@@ -16,5 +16,5 @@ pub fn check(table: &[u64], pool: &[u64]) -> Verdict
     ensures { λ r. ⌜ r ≡ verdict (now (table .entry)) (now (pool .entry)) ⌝ }
 {
     let mut plan = [0u64; 1024];
-    prepared::prepare(table, pool, &mut plan)
+    prepare(table, pool, &mut plan)
 }

@@ -1,31 +1,19 @@
 // From a number to cells.
 ghost use mathlib.Core.Path.{_≡_};
-ghost use Rattle.cases.specs.Prepared.{Planning};
-ghost use Rattle.cases.specs.Write.{Wrote, WrotePlanned, roomFor};
-use super::prepared::prepare;
+ghost use Rattle.checked.specs.Prepared.{Planning};
+ghost use Rattle.cases.specs.Write.{Wrote, WrotePlanned};
+use checked::fits::DEPTH;
+use checked::fits::Fit;
+use checked::fits::fits;
+use checked::prepared::prepare;
 use grammar::refusal::Refusal;
 use grammar::refusal::Verdict;
-use numbers::size::LARGEST;
 use walk::fill::fill;
-use walk::tally::RoomLeft;
-use walk::tally::tally;
-
-// "Depth is at most 200. A case has at most 65,536 cells"
-pub const DEPTH: usize = 200;
-
-pub const MOST_CELLS: usize = 65536;
 
 // The count of cells, or the refusal and its node.
 pub enum Written {
     Done(usize),
     Refused(Refusal, u64),
-}
-
-// "a longer buffer to write into counts as that long for one case"
-fn room_for(room: usize) -> usize
-    ensures { λ r. ⌜ r ≡ roomFor room ⌝ }
-{
-    if room < MOST_CELLS { room } else { MOST_CELLS }
 }
 
 // The call on an accepted table: 11, then 12, then the walk. It writes only once it is known to fit.
@@ -43,16 +31,9 @@ fn write_planned(
     if table.len() / 3 <= start {
         return Written::Refused(Refusal::NoSuchStart, 0);
     }
-    if plan[4 * start + 3] <= number {
-        return Written::Refused(Refusal::NoSuchNumber, 0);
-    }
-    if LARGEST <= number {
-        return Written::Refused(Refusal::NoSuchNumber, 0);
-    }
-    match tally(plan, pool, start, number, DEPTH, room_for(cells.len())) {
-        RoomLeft::Left(_) => Written::Done(fill(plan, pool, start, number, DEPTH, cells)),
-        RoomLeft::TooDeep => Written::Refused(Refusal::TooDeep, 0),
-        RoomLeft::NoRoom => Written::Refused(Refusal::NoRoom, 0),
+    match fits(plan, pool, start, number, cells.len()) {
+        Fit::Cells(_) => Written::Done(fill(plan, pool, start, number, DEPTH, cells)),
+        Fit::Not(r) => Written::Refused(r, 0),
     }
 }
 

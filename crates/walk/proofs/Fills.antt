@@ -25,7 +25,7 @@ unfolding over
 over-none [] = refl
 over-none (x ∷ new) = refl
 
-length-over : (new old : List ℕ) → length (over new old) ≡ length old
+pub length-over : (new old : List ℕ) → length (over new old) ≡ length old
 unfolding over
 length-over [] old = refl
 length-over (x ∷ new) [] = refl

@@ -26,11 +26,11 @@ use Rattle.walk.specs.Got.{Took}
 use Rattle.walk.specs.declared.number.Got.{Got}
 use Rattle.walk.specs.declared.number.Got.the-variants.{Number as Read-number, Big, Wrong}
 use Rattle.walk.proofs.Takes.{told}
-use Rattle.cases.specs.Prepared.{Planning, Prepared}
+use Rattle.checked.specs.Prepared.{Planning, Prepared}
 use Rattle.cases.specs.Read.{found, finds, reads}
 use Rattle.cases.specs.declared.reading.Found.{Found}
 use Rattle.cases.specs.declared.reading.Found.the-variants.{Number, Refused}
-use Rattle.cases.proofs.Walking.{same-grammar, walkable}
+use Rattle.checked.proofs.Walking.{same-grammar, walkable}
 
 module _ {cells : List ℕ} {g : Got} {least : ℕ} {w : Read} (lo : 2 ^ 62 ≤ least) (h : Took least w cells most g) where
   module _ {n k : ℕ} (e : g ≡ Read-number n k) where

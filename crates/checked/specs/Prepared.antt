@@ -1,5 +1,6 @@
 -- The check inside a call: its verdict, and the plan of an accepted table.
 --   Prepared   the verdict is the table's, and where it is accepted the plan holds its nodes and their sizes
+--   Stands     a node of a plan that may be walked
 -- Assumes nothing.
 use mathlib.Core.Path.{_≡_}
 use mathlib.Core.List.{List}
@@ -10,7 +11,8 @@ use Rattle.grammar.specs.Plan.{Planned}
 use Rattle.grammar.specs.Verdict.{verdict}
 use Rattle.grammar.specs.declared.refusal.Verdict.{Verdict}
 use Rattle.grammar.specs.declared.refusal.Verdict.the-variants.{Accepted}
-use Prim.Native.Nat.{ℕ}
+use Rattle.walk.specs.Good.{Walkable}
+use Prim.Native.Nat.{ℕ, _<_}
 
 pub record Planning (t p plan : List ℕ) : Type 0 where
   pub passes : scan t p (nodes t) ≡ passed (sizes t p)
@@ -20,3 +22,8 @@ pub record Planning (t p plan : List ℕ) : Type 0 where
 pub record Prepared (t p plan : List ℕ) (v : Verdict) : Type 0 where
   pub is : v ≡ verdict t p
   pub ready : v ≡ Accepted → Planning t p plan
+
+-- a node of a plan that may be walked
+pub record Stands (plan p : List ℕ) (i : ℕ) : Type 0 where
+  pub walks : Walkable plan p
+  pub node : i < walks .count

@@ -22,7 +22,7 @@ use Rattle.grammar.specs.declared.refusal.Verdict.{Verdict}
 use Rattle.grammar.specs.declared.refusal.Verdict.the-variants.{Accepted, Refused}
 use Rattle.grammar.proofs.Scan.{scan-sound}
 use Rattle.grammar.proofs.Plans.{plan-sizes}
-use Rattle.cases.specs.Prepared.{Prepared}
+use Rattle.checked.specs.Prepared.{Prepared}
 
 pub refused-not : {r : Refusal} {k : ℕ} → Refused r k ≡ Accepted → ⊥
 refused-not e = let x : _≡_ {A = ℕ} 0 1 = cc in omega arith

@@ -1,10 +1,10 @@
--- `cases::prepared::prepare` is the whole check, in its order.
+-- `checked::prepared::prepare` is the whole check, in its order.
 -- Assumes nothing.
 use borrow.Author.Needs.{needs}
 use Rattle.grammar.proofs.Tests.{tests}
-use Rattle.cases.proofs.Preparing.{prepared-length, prepared-fault, prepared-ready, prepared-cycles}
-use Rattle.cases.proofs.prepared.prepare.Statement.{statement}
-use Rattle.cases.proofs.prepared.prepare.Tie as tie
+use Rattle.checked.proofs.Preparing.{prepared-length, prepared-fault, prepared-ready, prepared-cycles}
+use Rattle.checked.proofs.prepared.prepare.Statement.{statement}
+use Rattle.checked.proofs.prepared.prepare.Tie as tie
 
 pub prepare-spec : {M : Type 1} → statement M
 prepare-spec =

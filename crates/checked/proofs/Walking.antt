@@ -2,7 +2,7 @@
 --   same-grammar   the plan's grammar is the table's
 --   sizes-some     no node of an accepted table is empty
 --   good-of        an accepted table's grammar is good
---   walkable       so the plan may be walked
+--   walkable, stands-at   so the plan may be walked, from each of the table's nodes
 -- Assumes nothing.
 use mathlib.Core.Path.{_≡_, refl, _∙_, fun-ext}
 use mathlib.Core.Bool.{Bool, true, false, _||_, false≢true}
@@ -27,7 +27,7 @@ use Rattle.grammar.proofs.Plans.{plan-sizes}
 use Rattle.grammar.proofs.Tests.{and-left, and-right}
 use Rattle.walk.specs.Grammar.{grammarOf, nodeIn, planned}
 use Rattle.walk.specs.Good.{Single, Fits, Good, Walkable}
-use Rattle.cases.specs.Prepared.{Planning}
+use Rattle.checked.specs.Prepared.{Planning, Stands}
 
 -- ---- the plan's grammar
 module _ {t p plan : List ℕ} (h : Planning t p plan) where
@@ -144,3 +144,7 @@ module _ (t p : List ℕ) (pass : scan t p (nodes t) ≡ passed (sizes t p)) (c 
 
 abbrev pub walkable : {t p plan : List ℕ} → Planning t p plan → Walkable plan p
 walkable {t} {p} {plan} h = record { count = nodes t; few = h .checked .few; good = rw (same-grammar h) (good-of t p (h .passes) (h .checked)) }
+
+-- a start that is in the table may be walked from
+abbrev pub stands-at : {t p plan : List ℕ} → Planning t p plan → {i : ℕ} → i < nodes t → Stands plan p i
+stands-at h l = record { walks = walkable h; node = l }

@@ -1,7 +1,7 @@
 // The check of a table, which leaves the plan that the walks use.
 ghost use mathlib.Core.Path.{_≡_};
 ghost use lib.ListN.{replicate};
-ghost use Rattle.cases.specs.Prepared.{Prepared};
+ghost use Rattle.checked.specs.Prepared.{Prepared};
 use grammar::plan::weigh_all;
 use grammar::refusal::Refusal;
 use grammar::refusal::Verdict;

@@ -1,0 +1,38 @@
+-- One number on a checked table. 01: "12, then the walk with the room left".
+--   asked, Asked   "Numbers asked for are below 2^62 and below the size."
+--   roomFor    "a longer buffer to write into counts as that long for one case"
+--   fitted     the count of the case's cells, or the refusal
+-- Assumes nothing.
+use mathlib.Core.Bool.{Bool, _&&_}
+use Prim.Native.Nat.{ℕ, _-_, _^_, _<_, min}
+use lib.Dec.{ltb}
+use Rattle.numbers.specs.Pick.{pick}
+use Rattle.numbers.specs.Size.{Size, below, Below}
+use Rattle.grammar.specs.declared.refusal.Refusal.the-variants.{NoSuchNumber, TooDeep, NoRoom}
+use Rattle.walk.specs.Grammar.{Grammar}
+use Rattle.walk.specs.Walk.{walk, depth}
+use Rattle.walk.specs.Room.{tallied, most}
+use Rattle.walk.specs.declared.tally.RoomLeft.{RoomLeft}
+use Rattle.walk.specs.declared.tally.RoomLeft.the-variants.{Left, TooDeep as Deep, NoRoom as Full}
+use Rattle.checked.specs.declared.fits.Fit.{Fit}
+use Rattle.checked.specs.declared.fits.Fit.the-variants.{Cells, Not}
+
+abbrev pub asked : Size → ℕ → Bool
+asked s n = below n s && ltb n (2 ^ 62)
+
+-- the same, as a fact
+pub record Asked (s : Size) (n : ℕ) : Type 0 where
+  pub below : Below n s
+  pub small : n < 2 ^ 62
+
+abbrev pub roomFor : ℕ → ℕ
+roomFor room = min room most
+
+-- what is left of the room says how many cells there are
+abbrev pub outcome : ℕ → RoomLeft → Fit
+outcome room (Left rest) = Cells (room - rest)
+outcome room Deep = Not TooDeep
+outcome room Full = Not NoRoom
+
+unfoldable pub fitted : Grammar → ℕ → ℕ → ℕ → Fit
+fitted g i n room = pick (asked (g .size i) n) (outcome (roomFor room) (tallied (roomFor room) (walk g depth i n))) (Not NoSuchNumber)

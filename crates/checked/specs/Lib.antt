@@ -1,0 +1,4 @@
+-- What every public call does inside.
+pub mod Prepared
+pub mod Fits
+pub mod Item

@@ -1,0 +1,46 @@
+// One number on a checked table: "12, then the walk with the room left".
+ghost use mathlib.Core.Path.{_≡_};
+ghost use Rattle.walk.specs.Grammar.{planned};
+ghost use Rattle.checked.specs.Prepared.{Stands};
+ghost use Rattle.checked.specs.Fits.{roomFor, fitted};
+use grammar::refusal::Refusal;
+use numbers::size::LARGEST;
+use walk::tally::RoomLeft;
+use walk::tally::tally;
+
+// "Depth is at most 200. A case has at most 65,536 cells"
+pub const DEPTH: usize = 200;
+
+pub const MOST_CELLS: usize = 65536;
+
+// The count of the case's cells, or why it is refused.
+pub enum Fit {
+    Cells(usize),
+    Not(Refusal),
+}
+
+// "a longer buffer to write into counts as that long for one case"
+fn room_for(room: usize) -> usize
+    ensures { λ r. ⌜ r ≡ roomFor room ⌝ }
+{
+    if room < MOST_CELLS { room } else { MOST_CELLS }
+}
+
+// Decides without writing.
+pub fn fits(plan: &[u64; 1024], pool: &[u64], start: usize, number: u64, room: usize) -> Fit
+    requires { ⌜ Stands (now plan) (now pool) start ⌝ }
+    ensures { λ r. ⌜ r ≡ fitted (planned (now (plan .entry)) (now (pool .entry))) start number room ⌝ }
+{
+    if plan[4 * start + 3] <= number {
+        return Fit::Not(Refusal::NoSuchNumber);
+    }
+    if LARGEST <= number {
+        return Fit::Not(Refusal::NoSuchNumber);
+    }
+    let most = room_for(room);
+    match tally(plan, pool, start, number, DEPTH, most) {
+        RoomLeft::Left(rest) => Fit::Cells(most - rest),
+        RoomLeft::TooDeep => Fit::Not(Refusal::TooDeep),
+        RoomLeft::NoRoom => Fit::Not(Refusal::NoRoom),
+    }
+}

@@ -1,0 +1,5 @@
+// What every public call does inside: the whole check of a table, and one number or one case on a
+// table that has passed it.
+pub mod fits;
+pub mod item;
+pub mod prepared;

@@ -1,0 +1,4 @@
+-- What the proofs of the row calls and of the reader cite.
+pub mod Turns
+pub mod Gathering
+mod Lent

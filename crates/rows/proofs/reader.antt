@@ -1,0 +1,2 @@
+-- What the code of the reader has found, in the words of its promise.
+pub mod Laws

@@ -1,0 +1,2 @@
+-- What the code of `write_row` has found, in the words of its promise.
+pub mod Laws

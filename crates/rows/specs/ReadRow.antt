@@ -1,0 +1,75 @@
+-- What `read_row` promises. 01: "Reading: the walk, then 16, then 14 if the buffer of numbers is full. A row of no items is done."
+--   Gathered    all numbers of a row, or the refusal and the item that stops it
+--   gather      of cells, with a room for numbers
+--   readsRow    the answer for a table, its pool, a start node, a room and the cells
+--   GotRow      the answer and the buffer's last words, for every input
+-- Assumes nothing.
+use mathlib.Core.Path.{_≡_}
+use mathlib.Core.List.{List, [], _∷_}
+use Prim.Native.Nat.{ℕ, zero, suc}
+use lib.Dec.{ltb}
+use lib.ListN.{length}
+use Rattle.numbers.specs.Pick.{pick}
+use Rattle.grammar.specs.Table.{nodes}
+use Rattle.grammar.specs.Verdict.{verdict}
+use Rattle.grammar.specs.declared.refusal.Refusal.{Refusal}
+use Rattle.grammar.specs.declared.refusal.Refusal.the-variants.{NoSuchStart, NoRoom}
+use Rattle.walk.specs.Grammar.{Grammar, grammarOf}
+use Rattle.checked.specs.Item.{Front, number, refused, front}
+use Rattle.rows.specs.Row.{judged, leaves}
+use Rattle.rows.specs.declared.answer.Row.{Row}
+use Rattle.rows.specs.declared.answer.Row.the-variants.{Done, Refused}
+
+pub data Gathered : Type 0 where
+  all : List ℕ → Gathered
+  stopped : Refusal → ℕ → Gathered
+
+-- the numbers after the first, or the item that stops them
+abbrev pub after : ℕ → Gathered → Gathered
+after n (all ns) = all (n ∷ ns)
+after n (stopped r item) = stopped r (suc item)
+
+-- "then 14 if the buffer of numbers is full"
+abbrev pub full : Front → Gathered
+full (number n rest) = stopped NoRoom 0
+full (refused r) = stopped r 0
+
+abbrev pub onward : Front → (List ℕ → Gathered) → Gathered
+onward (number n rest) f = after n (f rest)
+onward (refused r) f = stopped r 0
+
+unfoldable pub gather : Grammar → ℕ → ℕ → List ℕ → Gathered
+gather g i zero [] = all []
+gather g i (suc room) [] = all []
+gather g i zero (c ∷ cs) = full (front g i (c ∷ cs))
+gather g i (suc room) (c ∷ cs) = onward (front g i (c ∷ cs)) (λ rest. gather g i room rest)
+
+-- a row of so many cells that is read is read to its end
+abbrev pub answered : ℕ → Gathered → Row
+answered used (all ns) = Done (length ns) used
+answered used (stopped r item) = Refused r 0 item
+
+abbrev pub gotten : Gathered → List ℕ
+gotten (all ns) = ns
+gotten (stopped r item) = []
+
+-- 11, then the items
+unfoldable pub readsRowPlanned : List ℕ → List ℕ → ℕ → ℕ → List ℕ → Row
+readsRowPlanned t p i room cs = pick (ltb i (nodes t)) (answered (length cs) (gather (grammarOf t p) i room cs)) (Refused NoSuchStart 0 0)
+
+unfoldable pub readsRow : List ℕ → List ℕ → ℕ → ℕ → List ℕ → Row
+readsRow t p i room cs = judged (verdict t p) (readsRowPlanned t p i room cs)
+
+pub record GotRow (t p : List ℕ) (i : ℕ) (cs old last : List ℕ) (r : Row) : Type 0 where
+  pub is : r ≡ readsRow t p i (length old) cs
+  pub holds : last ≡ leaves r (gotten (gather (grammarOf t p) i (length old) cs)) old
+
+-- of an accepted table
+pub record GotRowPlanned (t p : List ℕ) (i : ℕ) (cs old last : List ℕ) (r : Row) : Type 0 where
+  pub is : r ≡ readsRowPlanned t p i (length old) cs
+  pub holds : last ≡ leaves r (gotten (gather (grammarOf t p) i (length old) cs)) old
+
+-- all its items are read
+pub record Gathers (x : Gathered) : Type 0 where
+  pub ns : List ℕ
+  pub is : x ≡ all ns

@@ -1,0 +1,68 @@
+-- What the reader promises. 01: "The reader checks table and start at each call, then, standing at or past the row's end, returns 0 with 0 items and 0 cells and stays;
+-- else it answers as row reading does for one item and moves past it. After a refusal it stays."
+--   nextOf     the answer at a place of a row
+--   afterOf    the place after it
+--   strideOf   both
+--   nextAnswer 01's number, node and counts of an answer
+-- Assumes nothing.
+use mathlib.Core.List.{List, [], _∷_}
+use Prim.Native.Nat.{ℕ, _+_, _-_}
+use lib.Dec.{ltb}
+use lib.ListN.{length, drop}
+use Rattle.numbers.specs.Pick.{pick}
+use Rattle.grammar.specs.Table.{nodes}
+use Rattle.grammar.specs.Refusals.{numberOf}
+use Rattle.grammar.specs.Verdict.{verdict}
+use Rattle.grammar.specs.declared.refusal.Refusal.the-variants.{NoSuchStart}
+use Rattle.grammar.specs.declared.refusal.Verdict.{Verdict}
+use Rattle.grammar.specs.declared.refusal.Verdict.the-variants.{Accepted, Refused as Refuses}
+use Rattle.walk.specs.Grammar.{Grammar, grammarOf}
+use Rattle.checked.specs.Item.{Front, number, refused, front}
+use Rattle.rows.specs.declared.reader.Next.{Next}
+use Rattle.rows.specs.declared.reader.Next.the-variants.{Item, End, Refused}
+use Rattle.rows.specs.declared.reader.Stride.{Stride}
+
+abbrev pub judged : Verdict → Next → Next
+judged Accepted x = x
+judged (Refuses r k) x = Refused r k
+
+-- an item and the count of its cells: those to come less those after it
+abbrev pub handed : ℕ → Front → Next
+handed count (number n rest) = Item n (count - length rest)
+handed count (refused r) = Refused r 0
+
+unfoldable pub next : Grammar → ℕ → List ℕ → Next
+next g i [] = End
+next g i (c ∷ cs) = handed (length (c ∷ cs)) (front g i (c ∷ cs))
+
+-- 11, then the item
+unfoldable pub nextPlanned : List ℕ → List ℕ → ℕ → List ℕ → ℕ → Next
+nextPlanned t p i row at = pick (ltb i (nodes t)) (next (grammarOf t p) i (drop at row)) (Refused NoSuchStart 0)
+
+unfoldable pub nextOf : List ℕ → List ℕ → ℕ → List ℕ → ℕ → Next
+nextOf t p i row at = judged (verdict t p) (nextPlanned t p i row at)
+
+-- "moves past it. After a refusal it stays."
+abbrev pub afterOf : ℕ → Next → ℕ
+afterOf at (Item n k) = at + k
+afterOf at End = at
+afterOf at (Refused r k) = at
+
+abbrev pub strideOf : List ℕ → List ℕ → ℕ → List ℕ → ℕ → Stride
+strideOf t p i row at = record { answer = nextOf t p i row at; at = afterOf at (nextOf t p i row at) }
+
+-- of an accepted table
+abbrev pub stridePlanned : List ℕ → List ℕ → ℕ → List ℕ → ℕ → Stride
+stridePlanned t p i row at = record { answer = nextPlanned t p i row at; at = afterOf at (nextPlanned t p i row at) }
+
+pub record NextAnswer : Type 0 where
+  pub refusal : ℕ
+  pub node : ℕ
+  pub items : ℕ
+  pub cells : ℕ
+  pub number : ℕ
+
+unfoldable pub nextAnswer : Next → NextAnswer
+nextAnswer (Item n k) = record { refusal = 0; node = 0; items = 1; cells = k; number = n }
+nextAnswer End = record { refusal = 0; node = 0; items = 0; cells = 0; number = 0 }
+nextAnswer (Refused r k) = record { refusal = numberOf r; node = k; items = 0; cells = 0; number = 0 }

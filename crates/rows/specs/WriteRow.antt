@@ -1,0 +1,57 @@
+-- What `write_row` promises. 01: "items in order; the first that is refused stops the call .. Writing: 12, then the walk with the room left .. A row of no items is done."
+--   inTurn      the answer for the numbers, with a room
+--   rowOf       the cases of the numbers "written one after another with no marks between"
+--   writesRow   the answer for a table, its pool, a start node, a room and the numbers
+--   WroteRow    the answer and the buffer's last words, for every input
+-- Assumes nothing.
+use mathlib.Core.Path.{_≡_}
+use mathlib.Core.List.{List, [], _∷_, _++_}
+use Prim.Native.Nat.{ℕ, _+_, _-_}
+use lib.Dec.{ltb}
+use lib.ListN.{length}
+use Rattle.numbers.specs.Pick.{pick}
+use Rattle.grammar.specs.Table.{nodes}
+use Rattle.grammar.specs.Verdict.{verdict}
+use Rattle.grammar.specs.declared.refusal.Refusal.the-variants.{NoSuchStart}
+use Rattle.walk.specs.Grammar.{Grammar, grammarOf}
+use Rattle.walk.specs.Walk.{walk, cells, depth}
+use Rattle.checked.specs.Fits.{fitted}
+use Rattle.checked.specs.declared.fits.Fit.{Fit}
+use Rattle.checked.specs.declared.fits.Fit.the-variants.{Cells, Not}
+use Rattle.rows.specs.Row.{judged, leaves}
+use Rattle.rows.specs.declared.answer.Row.{Row}
+use Rattle.rows.specs.declared.answer.Row.the-variants.{Done, Refused}
+
+-- an answer that has some items, with their cells, before it
+abbrev pub later : ℕ → ℕ → Row → Row
+later m c (Done items used) = Done (m + items) (c + used)
+later m c (Refused r k item) = Refused r k (m + item)
+
+-- an item that fits, and the rest of the row after its cells; or its refusal, at the first item
+abbrev pub onward : Fit → (ℕ → Row) → Row
+onward (Cells c) rest = later 1 c (rest c)
+onward (Not r) rest = Refused r 0 0
+
+unfoldable pub inTurn : Grammar → ℕ → ℕ → List ℕ → Row
+inTurn g i room [] = Done 0 0
+inTurn g i room (n ∷ ns) = onward (fitted g i n room) (λ c. inTurn g i (room - c) ns)
+
+unfoldable pub rowOf : Grammar → ℕ → List ℕ → List ℕ
+rowOf g i [] = []
+rowOf g i (n ∷ ns) = cells (walk g depth i n) ++ rowOf g i ns
+
+-- 11, then the items
+unfoldable pub writesRowPlanned : List ℕ → List ℕ → ℕ → ℕ → List ℕ → Row
+writesRowPlanned t p i room ns = pick (ltb i (nodes t)) (inTurn (grammarOf t p) i room ns) (Refused NoSuchStart 0 0)
+
+unfoldable pub writesRow : List ℕ → List ℕ → ℕ → ℕ → List ℕ → Row
+writesRow t p i room ns = judged (verdict t p) (writesRowPlanned t p i room ns)
+
+pub record WroteRow (t p : List ℕ) (i : ℕ) (ns old last : List ℕ) (r : Row) : Type 0 where
+  pub is : r ≡ writesRow t p i (length old) ns
+  pub holds : last ≡ leaves r (rowOf (grammarOf t p) i ns) old
+
+-- of an accepted table
+pub record WroteRowPlanned (t p : List ℕ) (i : ℕ) (ns old last : List ℕ) (r : Row) : Type 0 where
+  pub is : r ≡ writesRowPlanned t p i (length old) ns
+  pub holds : last ≡ leaves r (rowOf (grammarOf t p) i ns) old

@@ -1,0 +1,111 @@
+// "A reader hands out one case at a time from the front of a lent row": a struct of the lent row and a place,
+// thin over the covered slice-and-place function.
+ghost use mathlib.Core.Path.{_≡_};
+ghost use Rattle.checked.specs.Prepared.{Planning};
+ghost use Rattle.rows.specs.Reader.{nextOf, afterOf, strideOf, stridePlanned};
+use checked::item::Item;
+use checked::item::item_at;
+use checked::prepared::prepare;
+use grammar::refusal::Refusal;
+use grammar::refusal::Verdict;
+
+// What a reader hands out: a number and the count of its cells.
+pub enum Next {
+    Item(u64, usize),
+    End,
+    Refused(Refusal, u64),
+}
+
+// An answer, and the place after it.
+pub struct Stride {
+    pub answer: Next,
+    pub at: usize,
+}
+
+// On an accepted table: 11, then the row's end, then the case at the place.
+fn stride_planned(
+    table: &[u64],
+    pool: &[u64],
+    plan: &[u64; 1024],
+    start: usize,
+    row: &[u64],
+    at: usize,
+) -> Stride
+    requires { ⌜ Planning (now table) (now pool) (now plan) ⌝ }
+    ensures { λ r. ⌜ r ≡ stridePlanned (now (table .entry)) (now (pool .entry)) start (now (row .entry)) at ⌝ }
+{
+    if table.len() / 3 <= start {
+        return Stride {
+            answer: Next::Refused(Refusal::NoSuchStart, 0),
+            at,
+        };
+    }
+    if row.len() <= at {
+        return Stride {
+            answer: Next::End,
+            at,
+        };
+    }
+    match item_at(plan, pool, start, row, at) {
+        Item::Number(n, next) => Stride {
+            answer: Next::Item(n, next - at),
+            at: next,
+        },
+        Item::Not(r) => Stride {
+            answer: Next::Refused(r, 0),
+            at,
+        },
+    }
+}
+
+// The covered function on a slice and a place: the answer and the next place together.
+fn stride_at(table: &[u64], pool: &[u64], start: usize, row: &[u64], at: usize) -> Stride
+    ensures { λ r. ⌜ r ≡ strideOf (now (table .entry)) (now (pool .entry)) start (now (row .entry)) at ⌝ }
+{
+    let mut plan = [0u64; 1024];
+    let v = prepare(table, pool, &mut plan);
+    match v {
+        Verdict::Refused(r, k) => Stride {
+            answer: Next::Refused(r, k),
+            at,
+        },
+        Verdict::Accepted => stride_planned(table, pool, &plan, start, row, at),
+    }
+}
+
+pub struct Reader<'a> {
+    pub row: &'a [u64],
+    pub at: usize,
+}
+
+impl<'a> Reader<'a> {
+    pub fn new(row: &'a [u64]) -> Reader<'a>
+        ensures { λ r. ⌜ (r .row ≡ row .entry) × (r .at ≡ 0) ⌝ }
+    {
+        Reader { row, at: 0 }
+    }
+
+    // The answer at the reader's place, and the reader moves past it.
+    pub fn next(&mut self, table: &[u64], pool: &[u64], start: usize) -> Next
+        ensures { λ n. ⌜ (n ≡ nextOf (now (table .entry)) (now (pool .entry)) start (now (now (self .entry) .row)) (now (self .entry) .at))
+            × (now (self .exit) .row ≡ now (self .entry) .row)
+            × (now (self .exit) .at ≡ afterOf (now (self .entry) .at) (nextOf (now (table .entry)) (now (pool .entry)) start (now (now (self .entry) .row)) (now (self .entry) .at))) ⌝ }
+    {
+        let at = self.at;
+        let s = stride_at(table, pool, start, self.row, at);
+        self.at = s.at;
+        s.answer
+    }
+}
+
+// A reader at any place of a row, asked once. Plain parameters: whoever calls it needs no walk.
+pub fn read_at(table: &[u64], pool: &[u64], start: usize, row: &[u64], at: usize) -> Stride
+    ensures { λ r. ⌜ r ≡ strideOf (now (table .entry)) (now (pool .entry)) start (now (row .entry)) at ⌝ }
+{
+    let mut reader = Reader { row, at };
+    let answer = reader.next(table, pool, start);
+    Stride {
+        answer,
+        at: reader.at,
+    }
+}
