@@ -5,17 +5,19 @@
 --   read-then-written   what `read` finds the number of, `write` gives back, in any buffer that is long enough
 --   only-cases          `read` gives a number only for the cells of its case
 --   one-case, one-number   a number has one case, a case one number
---   reads-on, no-beginning   a case followed by anything is read to its end, and no case is the beginning of a different one
+--   reads-on, longer-refused, no-beginning   a case followed by anything is read to its end, so `read` refuses it, and no case is the beginning of a different one
+-- The reader of the crate `rows` goes on from there (`case-handed` of `Rattle.rows.proofs.OneList`).
 -- Assumes nothing.
 use mathlib.Core.Path.{_≡_, refl, sym, subst, _∙_}
 use mathlib.Core.Logic.{inl}
-use mathlib.Core.List.{List, [], _++_, append-nil}
+use mathlib.Core.List.{List, [], _∷_, _++_, append-nil}
 use Prim.Native.Nat.{ℕ, _+_, _-_, _≤_, _<_}
 use native.Mathlib.Omega.{arith}
 use lib.ListN.{length}
 use Rattle.grammar.specs.Table.{nodes}
 use Rattle.grammar.specs.Sizes.{sizeAt, sizes}
 use Rattle.grammar.specs.Verdict.{verdict}
+use Rattle.grammar.specs.declared.refusal.Refusal.the-variants.{NotACase}
 use Rattle.grammar.specs.declared.refusal.Verdict.the-variants.{Accepted}
 use Rattle.walk.specs.Grammar.{grammarOf}
 use Rattle.walk.specs.Walk.{walk, cells, depth}
@@ -27,13 +29,13 @@ use Rattle.walk.proofs.Back.{shifted-none, back}
 use Rattle.walk.proofs.Only.{only, prefix-free}
 use Rattle.cases.specs.Read.{reads}
 use Rattle.cases.specs.Write.{writes}
-use Rattle.cases.specs.declared.reading.Found.the-variants.{Number}
+use Rattle.cases.specs.declared.reading.Found.the-variants.{Number, Refused}
 use Rattle.cases.specs.declared.writing.Written.the-variants.{Done}
 use Rattle.cases.proofs.Meaning.{accepted-passes, accepted-checked}
 use Rattle.checked.proofs.Walking.{good-of}
 use Rattle.checked.specs.Fits.{Asked}
 use Rattle.checked.proofs.Fitted.{cells-map}
-use Rattle.cases.proofs.Doors.{reads-is, found-number, number-found, writes-is, writes-done}
+use Rattle.cases.proofs.Doors.{reads-is, left-over, found-number, number-found, writes-is, writes-done}
 
 module _ (t p : List ℕ) (a : verdict t p ≡ Accepted) (i : ℕ) (l : i < nodes t) where
   good : Good (grammarOf t p) (nodes t)
@@ -54,6 +56,12 @@ module _ (t p : List ℕ) (a : verdict t p ≡ Accepted) (i : ℕ) (l : i < node
   pub reads-on : (n : ℕ) (cs rest : List ℕ) (q : ℕ) → Asked (sizeAt (sizes t p) i) n → Case (grammarOf t p) i n cs
       → taken (grammarOf t p) depth i 0 (length cs + q) (cs ++ rest) ≡ read n q rest
   reads-on n cs rest q k c = rw shifted-none at (back (grammarOf t p) (nodes t) good depth i n (goes k) 0 (inl refl) cs (c .shows) q rest)
+
+  -- so `read`, which is for a whole case, refuses it
+  pub longer-refused : (n : ℕ) (cs : List ℕ) (c : ℕ) (more : List ℕ) → Asked (sizeAt (sizes t p) i) n → Case (grammarOf t p) i n cs → reads t p i (cs ++ (c ∷ more)) ≡ Refused NotACase 0
+  longer-refused n cs c more q k =
+      let room : length cs + (most - length cs) ≡ most = omega (arith, k .few) in
+      reads-is t p a i l (cs ++ (c ∷ more)) ∙ left-over _ (rw room at (reads-on n cs (c ∷ more) (most - length cs) q k))
 
   -- ---- 1. written, then read
   case-read : (n : ℕ) (cs : List ℕ) → Asked (sizeAt (sizes t p) i) n → Case (grammarOf t p) i n cs → reads t p i cs ≡ Number n

@@ -14,7 +14,7 @@ use Rattle.numbers.specs.Pick.{pick}
 use Rattle.grammar.specs.Table.{nodes}
 use Rattle.grammar.specs.Sizes.{sizeAt, sizes}
 use Rattle.grammar.specs.Verdict.{verdict}
-use Rattle.grammar.specs.declared.refusal.Refusal.the-variants.{NumberTooLarge}
+use Rattle.grammar.specs.declared.refusal.Refusal.the-variants.{NotACase, NumberTooLarge}
 use Rattle.grammar.specs.declared.refusal.Verdict.the-variants.{Accepted}
 use Rattle.walk.specs.Grammar.{grammarOf}
 use Rattle.walk.specs.Walk.{cell, walk, cells, depth}
@@ -43,6 +43,10 @@ found-number (wrong r) n e = let z : _≡_ {A = ℕ} 0 1 = cc in absurd (omega a
 pub number-found : (w : Read) (n q : ℕ) → w ≡ read n q [] → n < 2 ^ 62 → found w ≡ Number n
 unfolding found
 number-found w n q e s = rw (e, lt-ltb n (2 ^ 62) s)
+
+pub left-over : (w : Read) {n q c : ℕ} {cs : List ℕ} → w ≡ read n q (c ∷ cs) → found w ≡ Not-found NotACase 0
+unfolding found
+left-over w e = rw e
 
 pub wrote-done : (f : Fit) (k : ℕ) → wrote f ≡ Done k → f ≡ Cells k
 wrote-done (Cells m) k e = let s : m ≡ k = cc in ap Cells s

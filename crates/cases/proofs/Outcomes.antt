@@ -4,9 +4,8 @@
 --   same-cells      so they depend on the table, the pool, the start and the number alone, not on what the buffer held
 -- Assumes nothing.
 use mathlib.Core.Path.{_≡_, refl, sym, ap, subst, _∙_}
-use mathlib.Core.List.{List, [], _∷_}
+use mathlib.Core.List.{List}
 use Prim.Native.Nat.{ℕ, _≤_}
-use native.Mathlib.Nat.{not-suc-le-zero, le-of-suc-le-suc}
 use native.Mathlib.Omega.{arith}
 use lib.Dec.{ltb}
 use lib.ListN.{length, take}
@@ -18,6 +17,7 @@ use Rattle.grammar.specs.declared.refusal.Verdict.the-variants.{Accepted, Refus
 use Rattle.walk.specs.Grammar.{Grammar, grammarOf}
 use Rattle.walk.specs.Walk.{Event, walk, cells, depth}
 use Rattle.walk.specs.Filled.{over}
+use Rattle.walk.proofs.Fills.{over-front}
 use Rattle.checked.specs.Fits.{fitted}
 use Rattle.checked.specs.declared.fits.Fit.{Fit}
 use Rattle.checked.specs.declared.fits.Fit.the-variants.{Cells, Not}
@@ -50,13 +50,6 @@ module _ (t p : List ℕ) (i n room : ℕ) where
   writes-tells : Tells room (cells es) (writes t p i n room)
   unfolding writes
   writes-tells = judged-tells room (cells es) (verdict t p) (walks t p i n room) walks-tells
-
--- a list over the front of a buffer that is long enough
-over-front : (cs old : List ℕ) → length cs ≤ length old → take (length cs) (over cs old) ≡ cs
-unfolding over
-over-front [] old l = refl
-over-front (c ∷ cs) [] l = absurd (not-suc-le-zero l)
-over-front (c ∷ cs) (o ∷ old) l = ap (λ (xs : List ℕ). c ∷ xs) (over-front cs old (le-of-suc-le-suc l))
 
 module _ {t p : List ℕ} {i n : ℕ} {old last : List ℕ} {r : Written} (k : Wrote t p i n old last r) (count : ℕ) (e : r ≡ Done count) where
   tells : (count ≤ length old) × (count ≡ length (cells (walk (grammarOf t p) depth i n)))

@@ -1,4 +1,7 @@
 -- What the proofs of the row calls and of the reader cite.
 pub mod Turns
 pub mod Gathering
+pub mod Cuts
+pub mod Answers
+pub mod OneList
 mod Lent

@@ -104,7 +104,7 @@ module _ (g : Grammar) (i : ℕ) where
   filled-all {ns} {old} {now} {j} h l = h .fills .holds ∙ rw (take-all j ns l)
 
   -- ---- a row that is done
-  onward-done : (f : Fit) (rest : ℕ → Row) {m c : ℕ} → onward f rest ≡ Done m c → (k : ℕ) × (items : ℕ) × (used : ℕ) × (f ≡ Cells k) × (rest k ≡ Done items used) × (m ≡ 1 + items) × (c ≡ k + used)
+  pub onward-done : (f : Fit) (rest : ℕ → Row) {m c : ℕ} → onward f rest ≡ Done m c → (k : ℕ) × (items : ℕ) × (used : ℕ) × (f ≡ Cells k) × (rest k ≡ Done items used) × (m ≡ 1 + items) × (c ≡ k + used)
   onward-done (Not r) rest e = let z : _≡_ {A = ℕ} 0 1 = cc in absurd (omega arith)
   onward-done (Cells k) rest {m} {c} e = by (rest k) refl e
     where

@@ -3,3 +3,4 @@ pub mod Row
 pub mod WriteRow
 pub mod ReadRow
 pub mod Reader
+pub mod Cut

@@ -6,6 +6,7 @@
 use mathlib.Core.Path.{_≡_, refl, sym, ap, _∙_}
 use mathlib.Core.List.{List, [], _∷_, _++_, append-nil}
 use Prim.Native.Nat.{ℕ, suc, _+_, _-_, _≤_, min}
+use native.Mathlib.Nat.{not-suc-le-zero, le-of-suc-le-suc}
 use native.Mathlib.Omega.{arith}
 use lib.ListN.{length, take, drop, set, drop-of-length-le, length-append, length-drop}
 use lib.Seq.{take-all, take-nil}
@@ -30,6 +31,13 @@ unfolding over
 length-over [] old = refl
 length-over (x ∷ new) [] = refl
 length-over (x ∷ new) (y ∷ old) = ap suc (length-over new old)
+
+-- a list over the front of a buffer that is long enough
+pub over-front : (cs old : List ℕ) → length cs ≤ length old → take (length cs) (over cs old) ≡ cs
+unfolding over
+over-front [] old l = refl
+over-front (c ∷ cs) [] l = absurd (not-suc-le-zero l)
+over-front (c ∷ cs) (o ∷ old) l = ap (λ (xs : List ℕ). c ∷ xs) (over-front cs old (le-of-suc-le-suc l))
 
 -- the same, by the lengths
 pub over-is : (new old : List ℕ) → over new old ≡ take (length old) new ++ drop (length new) old

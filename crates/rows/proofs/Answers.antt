@@ -1,0 +1,114 @@
+-- Towards the theorems of `OneList`: what the promises say of cut rows, for an accepted table and a start in it.
+--   wrote-cut, cut-wrote    a cut row that fits is written; a row that is written is cut
+--   got-cut, cut-got        a cut row is read where its numbers have room; a row that is read is cut
+--   got-stopped             a row that is refused, where its numbers have room
+--   asks-end, asks-refused  what the reader says of them
+-- Assumes nothing.
+use mathlib.Core.Path.{_≡_, refl, sym, ap, subst, _∙_}
+use mathlib.Core.List.{List, [], _++_, append-nil}
+use Prim.Native.Nat.{ℕ, suc, _≤_, _<_}
+use native.Mathlib.Omega.{arith}
+use lib.ListN.{length, take}
+use borrow.Author.Tests.{lt-ltb}
+use Rattle.grammar.specs.Table.{nodes}
+use Rattle.grammar.specs.Verdict.{verdict}
+use Rattle.grammar.specs.declared.refusal.Refusal.{Refusal}
+use Rattle.grammar.specs.declared.refusal.Verdict.the-variants.{Accepted}
+use Rattle.walk.specs.Grammar.{Grammar, grammarOf}
+use Rattle.walk.specs.Filled.{over}
+use Rattle.walk.proofs.Fills.{over-front}
+use Rattle.rows.specs.Row.{leaves}
+use Rattle.rows.specs.WriteRow.{inTurn, rowOf, writesRowPlanned, writesRow, WroteRow}
+use Rattle.rows.specs.ReadRow.{Gathered, all, stopped, gather, answered, gotten, readsRowPlanned, readsRow, GotRow}
+use Rattle.rows.specs.Reader.{next, strideOf}
+use Rattle.rows.specs.Cut.{Cut, joined, handOut, asks}
+use Rattle.rows.specs.declared.answer.Row.{Row}
+use Rattle.rows.specs.declared.answer.Row.the-variants.{Done, Refused}
+use Rattle.rows.specs.declared.reader.Next.the-variants.{End, Refused as Not-handed}
+use Rattle.rows.proofs.Turns.{done-row}
+use Rattle.rows.proofs.Cuts.{gathered-fits, turns-cut, cut-turns, gather-cut, cut-gather, cut-stopped, asks-cut}
+
+-- an answer by what was gathered
+answered-all : (used : ℕ) (x : Gathered) {m c : ℕ} → answered used x ≡ Done m c → (ns : List ℕ) × (x ≡ all ns) × (length ns ≡ m) × (used ≡ c)
+answered-all used (all ns) {m} {c} e = let s : length ns ≡ m = cc in let s' : used ≡ c = cc in (ns, refl, s, s')
+answered-all used (stopped r k) e = let z : _≡_ {A = ℕ} 0 1 = cc in absurd (omega arith)
+
+answered-stopped : (used : ℕ) (x : Gathered) {r : Refusal} {k item : ℕ} → answered used x ≡ Refused r k item → x ≡ stopped r item
+answered-stopped used (all ns) e = let z : _≡_ {A = ℕ} 0 1 = cc in absurd (omega arith)
+answered-stopped used (stopped x j) {r} {k} {item} e =
+    let s : x ≡ r = cc in
+    let s' : j ≡ item = cc in
+    rw (s, s')
+
+-- the words that an answer counts
+counted : (new old : List ℕ) {last : List ℕ} {c : ℕ} → last ≡ over new old → c ≡ length new → length new ≤ length old → take c last ≡ new
+counted new old e s f = rw (e, s) (over-front new old f)
+
+-- an answer and its words, said by equals
+pub said-by : {w : Row} (last : List ℕ) {xs ys : List ℕ} {m m' c c' : ℕ} → (w ≡ Done m' c') × (take c' last ≡ xs) → m' ≡ m → c' ≡ c → xs ≡ ys → (w ≡ Done m c) × (take c last ≡ ys)
+said-by last h e f s = (h .0 ∙ cc (e, f), ap (λ (k : ℕ). take k last) (sym f) ∙ h .1 ∙ s)
+
+module _ (t p : List ℕ) (a : verdict t p ≡ Accepted) (i : ℕ) (l : i < nodes t) where
+  abbrev g : Grammar
+  g = grammarOf t p
+
+  writes-row-is : (room : ℕ) (ns : List ℕ) → writesRow t p i room ns ≡ inTurn g i room ns
+  unfolding writesRow writesRowPlanned
+  writes-row-is room ns = rw (a, lt-ltb i (nodes t) l)
+
+  reads-row-is : (room : ℕ) (cs : List ℕ) → readsRow t p i room cs ≡ answered (length cs) (gather g i room cs)
+  unfolding readsRow readsRowPlanned
+  reads-row-is room cs = rw (a, lt-ltb i (nodes t) l)
+
+  -- ---- writing
+  pub wrote-cut : {ns : List ℕ} {css : List (List ℕ)} → Cut g i ns css → {old last : List ℕ} {w : Row} → length (joined css) ≤ length old → WroteRow t p i ns old last w
+      → (w ≡ Done (length ns) (length (joined css))) × (take (length (joined css)) last ≡ joined css)
+  wrote-cut {ns} {css} cut {old} {last} {w} f h =
+      let (e, same) = turns-cut t p a i l (length old) cut f in
+      let is : w ≡ Done (length ns) (length (joined css)) = h .is ∙ writes-row-is (length old) ns ∙ e in
+      let holds : last ≡ over (joined css) old = h .holds ∙ ap (λ (x : Row). leaves x (rowOf g i ns) old) is ∙ ap (λ (xs : List ℕ). over xs old) same in
+      (is, counted (joined css) old holds refl f)
+
+  pub cut-wrote : {ns old last : List ℕ} {m c : ℕ} → WroteRow t p i ns old last (Done m c)
+      → (css : List (List ℕ)) × Cut g i ns css × (m ≡ length ns) × (c ≡ length (joined css)) × (take c last ≡ joined css)
+  cut-wrote {ns} {old} {last} {m} {c} h =
+      let e : inTurn g i (length old) ns ≡ Done m c = sym (h .is ∙ writes-row-is (length old) ns) in
+      let (css, cut, same) = cut-turns t p a i l (length old) ns e in
+      let (many, used, fits) = done-row g i (length old) ns e in
+      let long : c ≡ length (joined css) = used ∙ ap length (sym same) in
+      let holds : last ≡ over (joined css) old = h .holds ∙ ap (λ (xs : List ℕ). over xs old) (sym same) in
+      (css, cut, many, long, counted (joined css) old holds long (omega arith))
+
+  -- ---- reading
+  pub got-cut : {ns : List ℕ} {css : List (List ℕ)} → Cut g i ns css → {old last : List ℕ} {r : Row} → length ns ≤ length old → GotRow t p i (joined css) old last r
+      → (r ≡ Done (length ns) (length (joined css))) × (take (length ns) last ≡ ns)
+  got-cut {ns} {css} cut {old} {last} {r} f h =
+      let e = gather-cut t p a i l (length old) cut f in
+      let is : r ≡ Done (length ns) (length (joined css)) = h .is ∙ reads-row-is (length old) (joined css) ∙ ap (answered (length (joined css))) e in
+      let holds : last ≡ over ns old =
+      h .holds ∙ ap (λ (x : Row). leaves x (gotten (gather g i (length old) (joined css))) old) is ∙ ap (λ (x : Gathered). over (gotten x) old) e in
+      (is, counted ns old holds refl f)
+
+  pub cut-got : {cs old last : List ℕ} {m c : ℕ} → GotRow t p i cs old last (Done m c)
+      → (css : List (List ℕ)) × Cut g i (take m last) css × (joined css ≡ cs) × (length (take m last) ≡ m) × (length cs ≡ c)
+  cut-got {cs} {old} {last} {m} {c} h =
+      let (ns, e, many, used) = answered-all (length cs) (gather g i (length old) cs) (sym (h .is ∙ reads-row-is (length old) cs)) in
+      let (css, cut, same) = cut-gather t p a i l (length old) cs ns e in
+      let fits : length ns ≤ length old = gathered-fits g i (length old) cs e in
+      let holds : last ≡ over ns old = h .holds ∙ ap (λ (x : Gathered). over (gotten x) old) e in
+      let these : take m last ≡ ns = counted ns old holds (sym many) fits in
+      (css, subst (λ (xs : List ℕ). Cut g i xs css) (sym these) cut, same, ap length these ∙ many, used)
+
+  pub got-stopped : {row old last : List ℕ} {r : Refusal} {item : ℕ} → GotRow t p i row old last (Refused r 0 item) → length row ≤ length old
+      → (ns : List ℕ) × (css : List (List ℕ)) × (rest : List ℕ) × Cut g i ns css × (row ≡ joined css ++ rest) × (item ≡ length ns) × (next g i rest ≡ Not-handed r 0)
+  got-stopped {row} {old} {last} {r} {item} h f =
+      cut-stopped t p a i l (length old) row item f (answered-stopped (length row) (gather g i (length old) row) (sym (h .is ∙ reads-row-is (length old) row)))
+
+  -- ---- the reader
+  module _ {ns : List ℕ} {css : List (List ℕ)} (cut : Cut g i ns css) (row : List ℕ) {m : ℕ} (many : m ≡ length ns) where
+    pub asks-end : joined css ≡ row → asks (strideOf t p i row) (suc m) 0 ≡ handOut 0 ns css End
+    unfolding next
+    asks-end e = rw many (asks-cut t p a i l row [] 0 End refl (λ to. refl) cut (sym e ∙ sym (append-nil (joined css))))
+
+    pub asks-refused : (rest : List ℕ) {r : Refusal} → row ≡ joined css ++ rest → next g i rest ≡ Not-handed r 0 → asks (strideOf t p i row) (suc m) 0 ≡ handOut 0 ns css (Not-handed r 0)
+    asks-refused rest {r} e f = rw many (asks-cut t p a i l row rest 0 (Not-handed r 0) f (λ to. refl) cut e)

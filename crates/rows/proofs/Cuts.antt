@@ -1,0 +1,234 @@
+-- Towards the theorems of `OneList`: rows that are cut into cases, for an accepted table and a start in it.
+--   front-case, case-front   a case at the front of cells is read, and only a case is
+--   turns-cut, cut-turns     a cut row is written, and a row that is written is cut
+--   gather-cut, cut-gather   a cut row is read, and a row that is read is cut
+--   cut-stopped              a row that is refused is cut up to the item that is
+--   asks-cut                 a reader hands out a cut row, and then what stands after it
+-- Assumes nothing.
+use mathlib.Core.Path.{_≡_, refl, sym, ap, subst, _∙_}
+use mathlib.Core.Bool.{Bool, true, false}
+use mathlib.Core.Logic.{inl}
+use mathlib.Core.List.{List, [], _∷_, _++_, append-assoc}
+use Prim.Native.Nat.{ℕ, zero, suc, _+_, _-_, _^_, _≤_, _<_}
+use native.Mathlib.Nat.{not-suc-le-zero, le-of-suc-le-suc}
+use native.Mathlib.Omega.{arith}
+use lib.Dec.{ltb}
+use lib.ListN.{length, drop, length-append}
+use lib.Seq.{drop-append-seam, drop-drop}
+use borrow.Author.Tests.{lt-ltb, ltb-true}
+use Rattle.numbers.specs.Pick.{pick}
+use Rattle.grammar.specs.Table.{nodes}
+use Rattle.grammar.specs.Sizes.{sizeAt, sizes}
+use Rattle.grammar.specs.Verdict.{verdict}
+use Rattle.grammar.specs.declared.refusal.Refusal.{Refusal}
+use Rattle.grammar.specs.declared.refusal.Refusal.the-variants.{NumberTooLarge}
+use Rattle.grammar.specs.declared.refusal.Verdict.the-variants.{Accepted}
+use Rattle.walk.specs.Grammar.{Grammar, grammarOf}
+use Rattle.walk.specs.Walk.{cell, walk, cells, depth}
+use Rattle.walk.specs.Room.{Case, most}
+use Rattle.walk.specs.Reading.{Read, read, wrong, taken}
+use Rattle.walk.proofs.Back.{shifted-none}
+use Rattle.walk.proofs.Only.{only}
+use Rattle.walk.proofs.Strides.{case-some}
+use Rattle.checked.specs.Fits.{Asked, roomFor, fitted}
+use Rattle.checked.specs.Item.{Front, number, refused, frontOf, front}
+use Rattle.checked.specs.declared.fits.Fit.the-variants.{Cells}
+use Rattle.checked.proofs.Walking.{good-of}
+use Rattle.checked.proofs.Fitted.{cells-map, fitted-is, fitted-cells}
+use Rattle.cases.proofs.Meaning.{accepted-passes, accepted-checked}
+use Rattle.cases.proofs.BothSides.{reads-on}
+use Rattle.rows.specs.WriteRow.{onward, inTurn, rowOf}
+use Rattle.rows.specs.ReadRow.{Gathered, all, stopped, after, gather, full}
+use Rattle.rows.specs.ReadRow as Rows-read
+use Rattle.rows.specs.Reader.{next, nextPlanned, nextOf, afterOf, strideOf}
+use Rattle.rows.specs.Cut.{Cut, none, item, joined, handOut, asks}
+use Rattle.rows.specs.declared.answer.Row.the-variants.{Done}
+use Rattle.rows.specs.declared.reader.Next.{Next}
+use Rattle.rows.specs.declared.reader.Next.the-variants.{Item, Refused}
+use Rattle.rows.proofs.Turns.{onward-done}
+use Rattle.rows.proofs.Gathering.{gather-none, gather-full, gather-more}
+use Rattle.rows.proofs.reader.Laws.{next-some}
+
+-- ---- one case for a number
+pub same-case : {g : Grammar} {i n : ℕ} {cs ds : List ℕ} → Case g i n cs → Case g i n ds → cs ≡ ds
+same-case {g} {i} {n} {cs} {ds} c d = sym (cells-map cs) ∙ ap cells (sym (c .shows) ∙ d .shows) ∙ cells-map ds
+
+pub cases-same : {g : Grammar} {i : ℕ} {ns : List ℕ} {css dss : List (List ℕ)} → Cut g i ns css → Cut g i ns dss → css ≡ dss
+cases-same none none = refl
+cases-same (item q c k) (item q' c' k') = cc (same-case c c', cases-same k k')
+
+-- a cut row has cases of one cell and more
+some-cells : {g : Grammar} {i n : ℕ} {cs : List ℕ} (rest : List ℕ) → Case g i n cs → 0 < length (cs ++ rest)
+some-cells {g} {i} {n} {cs} rest c = omega (arith, case-some g i n cs c, length-append cs rest)
+
+-- ---- answers turned round
+front-number : (w : Read) {n : ℕ} {rest : List ℕ} → frontOf w ≡ number n rest → (q : ℕ) × (w ≡ read n q rest) × (n < 2 ^ 62)
+unfolding frontOf
+front-number (read m q ds) {n} {rest} e = by (ltb m (2 ^ 62)) refl e
+  where
+    by : (b : Bool) → ltb m (2 ^ 62) ≡ b → pick b (number m ds) (refused NumberTooLarge) ≡ number n rest → (q' : ℕ) × (read m q ds ≡ read n q' rest) × (n < 2 ^ 62)
+    by true u v =
+        let s : m ≡ n = cc in
+        let s' : ds ≡ rest = cc in
+        (q, rw (s, s'), omega (arith, ltb-true m (2 ^ 62) u))
+    by false u v = let z : _≡_ {A = ℕ} 0 1 = cc in absurd (omega arith)
+front-number (wrong r) e = let z : _≡_ {A = ℕ} 0 1 = cc in absurd (omega arith)
+
+full-not : (f : Front) {ns : List ℕ} → full f ≡ all ns → ⊥
+full-not (number n rest) e = let z : _≡_ {A = ℕ} 0 1 = cc in omega arith
+full-not (refused r) e = let z : _≡_ {A = ℕ} 0 1 = cc in omega arith
+
+after-all : (n : ℕ) (x : Gathered) {ns : List ℕ} → after n x ≡ all ns → (ms : List ℕ) × (x ≡ all ms) × (ns ≡ n ∷ ms)
+after-all n (all ms) {ns} e = let s : n ∷ ms ≡ ns = cc in (ms, refl, sym s)
+after-all n (stopped r k) e = let z : _≡_ {A = ℕ} 0 1 = cc in absurd (omega arith)
+
+after-stopped : (n : ℕ) (x : Gathered) {r : Refusal} {k : ℕ} → after n x ≡ stopped r k → (j : ℕ) × (x ≡ stopped r j) × (k ≡ suc j)
+after-stopped n (all ms) e = let z : _≡_ {A = ℕ} 0 1 = cc in absurd (omega arith)
+after-stopped n (stopped x j) {r} {k} e =
+    let s : x ≡ r = cc in
+    let s' : suc j ≡ k = cc in
+    (j, ap (λ y. stopped y j) s, sym s')
+
+onward-all : (f : Front) (rest : List ℕ → Gathered) {ns : List ℕ} → Rows-read.onward f rest ≡ all ns → (n : ℕ) × (ds : List ℕ) × (ms : List ℕ) × (f ≡ number n ds) × (rest ds ≡ all ms) × (ns ≡ n ∷ ms)
+onward-all (number n ds) rest e = let (ms, u, v) = after-all n (rest ds) e in (n, ds, ms, refl, u, v)
+onward-all (refused r) rest e = let z : _≡_ {A = ℕ} 0 1 = cc in absurd (omega arith)
+
+-- no more numbers are read than there is room for
+pub gathered-fits : (g : Grammar) (i room : ℕ) (cs : List ℕ) {ns : List ℕ} → gather g i room cs ≡ all ns → length ns ≤ room
+gathered-fits g i zero [] {ns} e = let f : all [] ≡ all ns = sym (gather-none g i 0) ∙ e in let s : [] ≡ ns = cc in rw (← s) (omega arith)
+gathered-fits g i zero (c ∷ cs) e = absurd (full-not (front g i (c ∷ cs)) (sym (gather-full g i (c ∷ cs) (omega arith)) ∙ e))
+gathered-fits g i (suc room) [] {ns} e = let f : all [] ≡ all ns = sym (gather-none g i (suc room)) ∙ e in let s : [] ≡ ns = cc in rw (← s) (omega arith)
+gathered-fits g i (suc room) (c ∷ cs) {ns} e =
+    let (n, ds, ms, u, v, w) = onward-all (front g i (c ∷ cs)) (λ rest. gather g i room rest) (sym (gather-more g i room (c ∷ cs) (omega arith)) ∙ e) in
+    omega (arith, ap length w, gathered-fits g i room ds v)
+
+module _ (t p : List ℕ) (a : verdict t p ≡ Accepted) (i : ℕ) (l : i < nodes t) where
+  abbrev g : Grammar
+  g = grammarOf t p
+
+  -- ---- a case at the front
+  pub front-case : {n : ℕ} {cs : List ℕ} → Asked (g .size i) n → Case g i n cs → (rest : List ℕ) → front g i (cs ++ rest) ≡ number n rest
+  unfolding frontOf
+  front-case {n} {cs} q c rest =
+      let room : length cs + (most - length cs) ≡ most = omega (arith, c .few) in
+      let e : taken g depth i 0 most (cs ++ rest) ≡ read n (most - length cs) rest = rw room at (reads-on t p a i l n cs rest (most - length cs) q c) in
+      rw (e, lt-ltb n (2 ^ 62) (q .small))
+
+  pub case-front : {n : ℕ} {cs rest : List ℕ} → front g i cs ≡ number n rest → (ws : List ℕ) × Asked (g .size i) n × Case g i n ws × (cs ≡ ws ++ rest)
+  case-front {n} {cs} {rest} e =
+      let (q, r, s) = front-number (taken g depth i 0 most cs) e in
+      let (b, (ws, shows, stands, room)) = only g (nodes t) (good-of t p (accepted-passes t p a) (accepted-checked t p a)) depth i l 0 most cs (inl refl) r in
+      (ws, record { below = b; small = s }, record { shows = shows; few = omega arith }, stands ∙ rw shifted-none)
+
+  -- ---- writing
+  pub turns-cut : {ns : List ℕ} {css : List (List ℕ)} (room : ℕ) → Cut g i ns css → length (joined css) ≤ room
+      → (inTurn g i room ns ≡ Done (length ns) (length (joined css))) × (rowOf g i ns ≡ joined css)
+  unfolding inTurn rowOf joined
+  turns-cut room none f = (refl, refl)
+  turns-cut room (item {n} {ns} {cs} {css} q c k) f =
+      let many = length-append cs (joined css) in
+      let (x, y) = turns-cut (room - length cs) k (omega arith) in
+      let w : fitted g i n room ≡ Cells (length cs) = fitted-is g i n room cs q (c .shows) (omega (arith, c .few)) in
+      let one : 1 + length ns ≡ suc (length ns) = omega arith in
+      let shown : cells (walk g depth i n) ≡ cs = rw (c .shows) (cells-map cs) in
+      (rw (w, x, one, many), rw (shown, y))
+
+  pub cut-turns : (room : ℕ) (ns : List ℕ) {m c : ℕ} → inTurn g i room ns ≡ Done m c → (css : List (List ℕ)) × Cut g i ns css × (joined css ≡ rowOf g i ns)
+  unfolding inTurn rowOf joined
+  cut-turns room [] e = ([], none, refl)
+  cut-turns room (n ∷ ns) e =
+      let (k, items, used, f, r, s, s') = onward-done g i (fitted g i n room) _ e in
+      let (q, shows, many, few) = fitted-cells g i n room k f in
+      let (css, cut, same) = cut-turns (room - k) ns r in
+      (cells (walk g depth i n) ∷ css, item {cs = cells (walk g depth i n)} q (record { shows = shows; few = omega arith }) cut, rw same)
+
+  -- ---- reading
+  pub gather-cut : {ns : List ℕ} {css : List (List ℕ)} (room : ℕ) → Cut g i ns css → length ns ≤ room → gather g i room (joined css) ≡ all ns
+  unfolding joined
+  gather-cut room none f = gather-none g i room
+  gather-cut zero (item q c k) f = absurd (not-suc-le-zero f)
+  gather-cut (suc room) (item {n} {ns} {cs} {css} q c k) f =
+      rw (gather-more g i room (cs ++ joined css) (some-cells (joined css) c), front-case q c (joined css), gather-cut room k (le-of-suc-le-suc f))
+
+  cut-none : (room : ℕ) (ns : List ℕ) → gather g i room [] ≡ all ns → (css : List (List ℕ)) × Cut g i ns css × (joined css ≡ [])
+  unfolding joined
+  cut-none room ns e =
+      let f : all [] ≡ all ns = sym (gather-none g i room) ∙ e in
+      let s : [] ≡ ns = cc in
+      ([], subst (λ (ms : List ℕ). Cut g i ms []) s none, refl)
+
+  pub cut-gather : (room : ℕ) (cs ns : List ℕ) → gather g i room cs ≡ all ns → (css : List (List ℕ)) × Cut g i ns css × (joined css ≡ cs)
+  unfolding joined
+  cut-gather zero [] ns e = cut-none zero ns e
+  cut-gather (suc room) [] ns e = cut-none (suc room) ns e
+  cut-gather zero (c ∷ cs) ns e = absurd (full-not (front g i (c ∷ cs)) (sym (gather-full g i (c ∷ cs) (omega arith)) ∙ e))
+  cut-gather (suc room) (c ∷ cs) ns e =
+      let (n, ds, ms, u, v, w) = onward-all (front g i (c ∷ cs)) (λ rest. gather g i room rest) (sym (gather-more g i room (c ∷ cs) (omega arith)) ∙ e) in
+      let (ws, q, k, same) = case-front u in
+      let (css, cut, join) = cut-gather room ds ms v in
+      (ws ∷ css, subst (λ (xs : List ℕ). Cut g i xs (ws ∷ css)) (sym w) (item q k cut), rw join (sym same))
+
+  -- ---- the reader
+  next-is : (row : List ℕ) (at : ℕ) → nextOf t p i row at ≡ next g i (drop at row)
+  unfolding nextOf nextPlanned
+  next-is row at = rw (a, lt-ltb i (nodes t) l)
+
+  counted : (n : ℕ) (xs ys : List ℕ) → Item n (length (xs ++ ys) - length ys) ≡ Item n (length xs)
+  counted n xs ys = let s : length (xs ++ ys) - length ys ≡ length xs = omega (arith, length-append xs ys) in rw s
+
+  next-case : (row : List ℕ) (at : ℕ) {n : ℕ} {cs : List ℕ} (rest : List ℕ) → Asked (g .size i) n → Case g i n cs → drop at row ≡ cs ++ rest → nextOf t p i row at ≡ Item n (length cs)
+  next-case row at {n} {cs} rest q c e = next-is row at ∙ rw (e, next-some g i (cs ++ rest) (some-cells rest c), front-case q c rest) (counted n cs rest)
+
+  pub stride-case : {n : ℕ} {cs : List ℕ} → Asked (g .size i) n → Case g i n cs → (before rest : List ℕ)
+      → strideOf t p i (before ++ (cs ++ rest)) (length before) ≡ record { answer = Item n (length cs); at = length before + length cs }
+  stride-case {n} {cs} q c before rest = rw (next-case (before ++ (cs ++ rest)) (length before) rest q c (drop-append-seam before (cs ++ rest)))
+
+  -- the items of a cut, and then what stands at the front of the rest
+  pub asks-cut : (row rest : List ℕ) (at : ℕ) (last : Next) {ns : List ℕ} {css : List (List ℕ)} → next g i rest ≡ last → ((to : ℕ) → afterOf to last ≡ to)
+      → Cut g i ns css → drop at row ≡ joined css ++ rest → asks (strideOf t p i row) (suc (length ns)) at ≡ handOut at ns css last
+  unfolding asks handOut joined
+  asks-cut row rest at last f stays none e =
+      let here : nextOf t p i row at ≡ last = next-is row at ∙ rw e f in
+      rw (here, stays at)
+  asks-cut row rest at last f stays (item {n} {ns} {cs} {css} q c k) e =
+      let whole : drop at row ≡ cs ++ (joined css ++ rest) = e ∙ append-assoc cs (joined css) rest in
+      let there : drop (at + length cs) row ≡ joined css ++ rest = sym (drop-drop (length cs) at row) ∙ rw whole (drop-append-seam cs (joined css ++ rest)) in
+      rw (next-case row at (joined css ++ rest) q c whole)
+      (ap (λ more. record { answer = Item n (length cs); at = at + length cs } ∷ more) (asks-cut row rest (at + length cs) last f stays k there))
+
+  -- ---- a row that is refused: the items before it are cut, and it stands at the front of the rest
+  abbrev StoppedAt : List ℕ → Refusal → ℕ → Type 0
+  StoppedAt cs r k = (ns : List ℕ) × (css : List (List ℕ)) × (rest : List ℕ) × Cut g i ns css × (cs ≡ joined css ++ rest) × (k ≡ length ns) × (next g i rest ≡ Refused r 0)
+
+  stopped-by : (room : ℕ) (cs : List ℕ) {r : Refusal} {k : ℕ} → length cs ≤ suc room → 0 < length cs
+      → ((ds : List ℕ) (j : ℕ) → length ds ≤ room → gather g i room ds ≡ stopped r j → StoppedAt ds r j)
+      → (x : Front) → front g i cs ≡ x → Rows-read.onward x (λ rest. gather g i room rest) ≡ stopped r k → StoppedAt cs r k
+  unfolding joined
+  stopped-by room cs {r} {k} f some again (refused x) u v =
+      let s : x ≡ r = cc in
+      let s' : _≡_ {A = ℕ} 0 k = cc in
+      ([], [], cs, none, refl, sym s', next-some g i cs some ∙ rw (u, s))
+  stopped-by room cs f some again (number n ds) u v =
+      let (j, w, up) = after-stopped n (gather g i room ds) v in
+      let (ws, q, one, same) = case-front u in
+      let fewer : length ds ≤ room = omega (arith, case-some g i n ws one, ap length same, length-append ws ds) in
+      let (ns, css, rest, cut, whole, many, last) = again ds j fewer w in
+      (n ∷ ns, ws ∷ css, rest, item q one cut, same ∙ ap (λ (xs : List ℕ). ws ++ xs) whole ∙ sym (append-assoc ws (joined css) rest), omega arith, last)
+
+  stopped-none : (room : ℕ) {r : Refusal} {k : ℕ} → gather g i room [] ≡ stopped r k → ⊥
+  stopped-none room {r} {k} e = let u : all [] ≡ stopped r k = sym (gather-none g i room) ∙ e in let z : _≡_ {A = ℕ} 0 1 = cc in omega arith
+
+  pub cut-stopped : (room : ℕ) (cs : List ℕ) {r : Refusal} (k : ℕ) → length cs ≤ room → gather g i room cs ≡ stopped r k → StoppedAt cs r k
+  cut-stopped zero [] k f e = absurd (stopped-none 0 e)
+  cut-stopped zero (c ∷ cs) k f e = absurd (not-suc-le-zero f)
+  cut-stopped (suc room) [] k f e = absurd (stopped-none (suc room) e)
+  cut-stopped (suc room) (c ∷ cs) k f e =
+      stopped-by room (c ∷ cs) f (omega arith) (λ ds j l' h. cut-stopped room ds j l' h) (front g i (c ∷ cs)) refl (sym (gather-more g i room (c ∷ cs) (omega arith)) ∙ e)
+
+  -- ---- one cut
+  pub cut-same : {ns ms : List ℕ} {css dss : List (List ℕ)} → Cut g i ns css → Cut g i ms dss → joined css ≡ joined dss → (ns ≡ ms) × (css ≡ dss)
+  cut-same {ns} {ms} {css} {dss} cut cut' e =
+      let room = length ns + length ms in
+      let one : all ns ≡ all ms = sym (gather-cut room cut (omega arith)) ∙ ap (gather g i room) e ∙ gather-cut room cut' (omega arith) in
+      let same : ns ≡ ms = cc in
+      (same, cases-same cut (subst (λ (xs : List ℕ). Cut g i xs dss) (sym same) cut'))
