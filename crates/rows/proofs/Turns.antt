@@ -70,10 +70,10 @@ module _ (g : Grammar) (i : ℕ) where
       pub tallying-stops : {r : Refusal} → f ≡ Not r → Refused r 0 j ≡ inTurn g i room ns
       tallying-stops q = let s : j + 0 ≡ j = omega arith in sym (at-item ∙ rw (q, s))
 
-    pub tallying-done : length ns ≤ j → Done (length ns) used ≡ inTurn g i room ns
+    pub tallying-done : length ns ≤ j → Done j used ≡ inTurn g i room ns
     unfolding inTurn
     tallying-done l =
-        let s : j + 0 ≡ length ns = omega (arith, h .le) in
+        let s : j + 0 ≡ j = omega arith in
         let u : used + 0 ≡ used = omega arith in
         sym (h .rest ∙ rw (drop-of-length-le ns {i = j} l, s, u))
 

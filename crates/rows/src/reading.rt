@@ -42,14 +42,14 @@ fn store_row(plan: &[u64; 1024], pool: &[u64], start: usize, cells: &[u64], numb
     requires { ⌜ Gathers (gather (planned (now plan) (now pool)) start (length (now numbers)) (now cells)) ⌝ }
     ensures { λ _. ⌜ now (numbers .exit) ≡ over (gotten (gather (planned (now (plan .entry)) (now (pool .entry))) start (length (now (numbers .entry))) (now (cells .entry)))) (now (numbers .entry)) ⌝ }
 {
-    let mut at: usize = 0;
-    let mut items: usize = 0;
-    while at < cells.len() {
-        match item_at(plan, pool, start, cells, at) {
+    let mut place: usize = 0;
+    let mut stored: usize = 0;
+    while place < cells.len() {
+        match item_at(plan, pool, start, cells, place) {
             Item::Number(n, next) => {
-                numbers[items] = n;
-                at = next;
-                items += 1;
+                numbers[stored] = n;
+                place = next;
+                stored += 1;
             }
             Item::Not(_) => {
                 return;

@@ -21,19 +21,20 @@ fn tally_row(plan: &[u64; 1024], pool: &[u64], start: usize, numbers: &[u64], ro
     requires { ⌜ Stands (now plan) (now pool) start ⌝ }
     ensures { λ r. ⌜ r ≡ inTurn (planned (now (plan .entry)) (now (pool .entry))) start room (now (numbers .entry)) ⌝ }
 {
-    let count = numbers.len();
+    let mut items: usize = 0;
     let mut used: usize = 0;
-    for j in 0..count {
-        match fits(plan, pool, start, numbers[j], room - used) {
+    while items < numbers.len() {
+        match fits(plan, pool, start, numbers[items], room - used) {
             Fit::Cells(k) => {
                 used += k;
+                items += 1;
             }
             Fit::Not(r) => {
-                return Row::Refused(r, 0, j);
+                return Row::Refused(r, 0, items);
             }
         }
     }
-    Row::Done(count, used)
+    Row::Done(items, used)
 }
 
 // The cases "written one after another with no marks between".
@@ -42,11 +43,12 @@ fn fill_row(plan: &[u64; 1024], pool: &[u64], start: usize, numbers: &[u64], cel
     requires { ⌜ ((j : ℕ) → j < length (now numbers) → Asked (planned (now plan) (now pool) .size start) (getD (now numbers) j 0)) ⌝ }
     ensures { λ _. ⌜ now (cells .exit) ≡ over (rowOf (planned (now (plan .entry)) (now (pool .entry))) start (now (numbers .entry))) (now (cells .entry)) ⌝ }
 {
-    let count = numbers.len();
+    let mut j: usize = 0;
     let mut used: usize = 0;
-    for j in 0..count {
+    while j < numbers.len() {
         let k = fill(plan, pool, start, numbers[j], DEPTH, &mut cells[used..]);
         used += k;
+        j += 1;
     }
 }
 

@@ -10,10 +10,10 @@ use Rattle.rows.proofs.reading.store_row.Statement.{statement}
 use Rattle.rows.proofs.reading.store_row.Tie as tie
 
 abbrev Inv-loop : tie.InvT-loop
-Inv-loop plan pool start cells numbers₀ at₀ items₀ numbers at items = Storing (planned plan pool) start cells numbers₀ numbers at items
+Inv-loop plan pool start cells numbers₀ place₀ stored₀ numbers place stored = Storing (planned plan pool) start cells numbers₀ numbers place stored
 
 abbrev μ-loop : tie.MeasureT-loop
-μ-loop plan pool start cells numbers₀ at₀ items₀ numbers at items = length cells - at
+μ-loop plan pool start cells numbers₀ place₀ stored₀ numbers place stored = length cells - place
 
 pub store-row-spec : {M : Type 1} → statement M
 store-row-spec =

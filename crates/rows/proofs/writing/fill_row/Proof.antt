@@ -3,6 +3,7 @@
 use borrow.Author.Needs.{needs}
 use Prim.Native.Nat.{_-_}
 use native.Mathlib.Omega.{arith}
+use lib.ListN.{length}
 use mathlib.Core.Path.{refl}
 use Rattle.walk.specs.Grammar.{planned}
 use Rattle.walk.proofs.Fills.{same, within}
@@ -11,10 +12,10 @@ use Rattle.rows.proofs.writing.fill_row.Statement.{statement}
 use Rattle.rows.proofs.writing.fill_row.Tie as tie
 
 abbrev Inv-loop : tie.InvT-loop
-Inv-loop plan pool start numbers cells₀ count used₀ j₀ cells used j = RowFilled (planned plan pool) start numbers cells₀ cells j used
+Inv-loop plan pool start numbers cells₀ j₀ used₀ cells j used = RowFilled (planned plan pool) start numbers cells₀ cells j used
 
 abbrev μ-loop : tie.MeasureT-loop
-μ-loop plan pool start numbers cells₀ count used₀ j₀ cells used j = count - j
+μ-loop plan pool start numbers cells₀ j₀ used₀ cells j used = length numbers - j
 
 pub fill-row-spec : {M : Type 1} → statement M
 fill-row-spec =

@@ -3,16 +3,17 @@
 use borrow.Author.Needs.{needs}
 use Prim.Native.Nat.{_-_}
 use native.Mathlib.Omega.{arith}
+use lib.ListN.{length}
 use Rattle.walk.specs.Grammar.{planned}
 use Rattle.rows.proofs.Turns.{Tallying, tallying-none, tallying-fits, tallying-more, tallying-stops, tallying-done}
 use Rattle.rows.proofs.writing.tally_row.Statement.{statement}
 use Rattle.rows.proofs.writing.tally_row.Tie as tie
 
 abbrev Inv-loop : tie.InvT-loop
-Inv-loop plan pool start numbers room count used₀ j₀ used j = Tallying (planned plan pool) start room numbers j used
+Inv-loop plan pool start numbers room items₀ used₀ items used = Tallying (planned plan pool) start room numbers items used
 
 abbrev μ-loop : tie.MeasureT-loop
-μ-loop plan pool start numbers room count used₀ j₀ used j = count - j
+μ-loop plan pool start numbers room items₀ used₀ items used = length numbers - items
 
 pub tally-row-spec : {M : Type 1} → statement M
 tally-row-spec =
@@ -28,8 +29,8 @@ tally-row-spec =
     (λ c. search needs)
     (λ c. omega (arith, tallying-fits _ _ (c .before .before .before .before .before .before .loop .inv) (c .before .before .before .before .before .loop-test .taken) (c .before .before .before .fits2 .ensures) (c .before .k .given .1), c .before .before .before .before .before .before .loop .inv .fits, c .before .before .before .before .before .before .before .before .before .fits .room))
     (λ c. search needs)
-    (λ c. tallying-stops _ _ (c .before .before .before .before .before .before .loop .inv) (c .before .before .before .before .before .loop-test .taken) (c .before .before .before .fits2 .ensures) (c .before .r .given .1))
-    (λ c. search needs)
     (λ c. omega arith)
     (λ c. tallying-more _ _ (c .before .before .before .before .before .before .loop .inv) (c .before .before .before .before .before .loop-test .taken) (c .before .before .before .fits2 .ensures) (c .before .k .given .1))
+    (λ c. search needs)
+    (λ c. tallying-stops _ _ (c .before .before .before .before .before .before .loop .inv) (c .before .before .before .before .before .loop-test .taken) (c .before .before .before .fits2 .ensures) (c .before .r .given .1))
     (λ c. tallying-done _ _ (c .before .loop .inv) (c .loop-test .left)))
