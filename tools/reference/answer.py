@@ -84,22 +84,23 @@ def answer_read(table, pool, fields):
     return [f"number {number}" if refusal == DONE else refused(refusal, node)]
 
 
-def answer_write_row(table, pool, fields):
-    start, room, *numbers = at_least(fields, 2)
-    start, room, numbers = word(start), room_of(room), row_of(numbers)
-    refusal, node, item, cells = write_row(table, pool, start, numbers, room)
+def answer_row(call, counts, table, pool, fields):
+    """A row call; counts(lent, given) are its items and its cells, by the row lent and the words given for it."""
+    start, room, *row = at_least(fields, 2)
+    start, room, row = word(start), room_of(room), row_of(row)
+    refusal, node, item, given = call(table, pool, start, row, room)
     if refusal != DONE:
         return [refused(refusal, node) + f" item {item}"]
-    return [listed(f"{len(numbers)} items, {len(cells)} cells", cells)]
+    items, cells = counts(row, given)
+    return [listed(f"{items} items, {cells} cells", given)]
+
+
+def answer_write_row(table, pool, fields):
+    return answer_row(write_row, lambda numbers, cells: (len(numbers), len(cells)), table, pool, fields)
 
 
 def answer_read_row(table, pool, fields):
-    start, room, *cells = at_least(fields, 2)
-    start, room, cells = word(start), room_of(room), row_of(cells)
-    refusal, node, item, numbers = read_row(table, pool, start, cells, room)
-    if refusal != DONE:
-        return [refused(refusal, node) + f" item {item}"]
-    return [listed(f"{len(numbers)} items, {len(cells)} cells", numbers)]
+    return answer_row(read_row, lambda cells, numbers: (len(numbers), len(cells)), table, pool, fields)
 
 
 def answer_reader(table, pool, fields):

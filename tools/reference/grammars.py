@@ -7,24 +7,15 @@ mutated(..)       a table with a word or two changed
 LISTS, CHAIN      the tables L of document 01 and D (sixty-five ones)
 """
 
+from kinds import AGAIN, BELOW, CONS, DEP, EXCEPT, FIX, NATS, OR, POOL, SHIFT
 from reference import (
-    AGAIN,
-    BELOW,
-    CONS,
-    DEP,
     DONE,
     ENDLESS,
-    EXCEPT,
-    FIX,
     LARGEST_SHIFT,
     LARGEST_SIZE,
     MOST_FIRSTS_OF_DEP,
     MOST_NODES,
-    NATS,
     NUMBERS_END,
-    OR,
-    POOL,
-    SHIFT,
     WORDS_PER_NODE,
     check,
     check_node,

@@ -4,7 +4,6 @@ Each table is followed by `check`. The sections follow the rules: the tables tha
 row with words at its edges, sizes, several faults at once, cycles, random tables, lines that cannot be read.
 """
 
-import sys
 from random import Random
 
 from answer import MOST_POOL_WORDS as MOST_POOL_WORDS_READ
@@ -22,24 +21,10 @@ from grammars import (
     mutated,
     words_of,
 )
-from reference import (
-    AGAIN,
-    BELOW,
-    CONS,
-    DEP,
-    EXCEPT,
-    FIX,
-    LARGEST_SHIFT,
-    LARGEST_SIZE,
-    MOST_FIRSTS_OF_DEP,
-    MOST_NODES,
-    MOST_POOL_WORDS,
-    NATS,
-    OR,
-    POOL,
-    SHIFT,
-)
-from vectors import Vectors
+from kinds import AGAIN, BELOW, CONS, DEP, EXCEPT, FIX, NATS, OR, POOL, SHIFT
+from reference import LARGEST_SHIFT, LARGEST_SIZE, MOST_FIRSTS_OF_DEP, MOST_NODES, MOST_POOL_WORDS, nodes_of
+from shapes import ROOT
+from vectors import Vectors, print_made
 
 DEFAULT_SEED = 3
 ACCEPTED_TABLES = 900
@@ -122,16 +107,8 @@ def lengths(vectors):
 # ---- each kind's row ----
 
 # A prefix with a part of every sort: node 8 is the one that is tried.
-PREFIX = (
-    (BELOW, 1, 0),
-    (BELOW, 3, 0),
-    (NATS, 0, 0),
-    (POOL, 2, 2),
-    (BELOW, LARGEST_SIZE, 0),
-    (SHIFT, 2, 7),
-    (CONS, 1, 1),
-    (OR, 0, 2),
-)
+PARTS = (BELOW, 1, 0, BELOW, 3, 0, NATS, 0, 0, POOL, 2, 2, BELOW, LARGEST_SIZE, 0, SHIFT, 2, 7, CONS, 1, 1, OR, 0, 2)
+PREFIX = nodes_of(PARTS)
 TRIED = len(PREFIX)
 SUFFIX = ((FIX, 2, 0), (NATS, 0, 0))
 EDGE_POOL = (1, 3, 0, 2, 7, 7, 8, 5, 5, 1, 9, 6)
@@ -185,7 +162,6 @@ def dep_edges(vectors):
 # ---- sizes ----
 
 HALF = LARGEST_SIZE // 2
-ROOT = 2**31  # the whole square root of 2^62
 
 
 def sums(vectors):
@@ -494,13 +470,11 @@ UNREADABLE_WORDS = (
 
 
 def raw_table(vectors, table_line, pool_line):
-    for line in ("table", table_line, pool_line, "check", "check"):
-        vectors.line(line)
+    vectors.put(("table", table_line, pool_line, "check", "check"))
 
 
 def before_any_table(vectors):
-    for line in ("check", "", "tabl", "0 1 0", "check"):
-        vectors.line(line)
+    vectors.put(("check", "", "tabl", "0 1 0", "check"))
 
 
 def unreadable(vectors):
@@ -519,8 +493,7 @@ def unreadable(vectors):
     raw_table(vectors, "1 0 0", too_many_pool_words)
     raw_table(vectors, "1 0 0", "")
     # a table whose second line never comes
-    vectors.line("table")
-    vectors.line("1 0 0")
+    vectors.put(("table", "1 0 0"))
 
 
 def make(seed):
@@ -548,4 +521,4 @@ def make(seed):
 
 
 if __name__ == "__main__":
-    make(int(sys.argv[1]) if len(sys.argv) > 1 else DEFAULT_SEED).print()
+    print_made(make, DEFAULT_SEED)

@@ -4,59 +4,23 @@ Every case of make_write.py's vectors is read back, whole and altered; then come
 A group is (table, pool, [(start, cells)]).
 """
 
-import sys
 from random import Random
 
 import make_write
 from answer import MOST_ROOM, MOST_ROW_WORDS
+from cells import WRAPPING_WORDS, altered, off_by_one, with_cell, zeros
 from grammars import LAST_WORD, LISTS, LISTS_START, accepted, words_of
-from reference import (
-    BELOW,
-    CONS,
-    DEP,
-    DONE,
-    EXCEPT,
-    MOST_CELLS,
-    NATS,
-    NUMBERS_END,
-    OR,
-    POOL,
-    SHIFT,
-    Refused,
-    case_cells,
-    is_finite,
-    survey,
-    write,
-)
-from shapes import PRINTED, RULES, chain, chains, last_node, of_length, recursions, under_excepts
-from vectors import Vectors
+from kinds import BELOW, CONS, DEP, EXCEPT, NATS, OR, POOL, SHIFT
+from reference import DONE, MOST_CELLS, NUMBERS_END, Refused, case_cells, is_finite, survey, write
+from shapes import PRINTED, RULES, chain, chains, last_node, of_length, recursions, shifted, under_excepts
+from vectors import Vectors, print_made
 
 DEFAULT_SEED = 5
 SHORT = 120  # cells; longer cases are read back but not altered
+FIRST_CELLS = 12  # of a case, each of them altered
 ALTERED_PER_CASE = 3
 ALTERED_SHARE = 0.35
 NEAR_LIMIT_TABLES = 120
-
-# Words whose squares, doubles and sums pass 2^64, and words about 2^62.
-WRAPPING_WORDS = (
-    2,
-    2**31 - 1,
-    2**31,
-    2**31 + 1,
-    2**32 - 1,
-    2**32,
-    2**32 + 1,
-    2**56,
-    2**61,
-    NUMBERS_END - 1,
-    NUMBERS_END,
-    NUMBERS_END + 1,
-    2**63 - 1,
-    2**63,
-    2**63 + 1,
-    LAST_WORD - 1,
-    LAST_WORD,
-)
 
 
 # ---- the cases of the write vectors ----
@@ -70,33 +34,6 @@ def written(table, pool, calls):
         if refusal == DONE and (start, number) not in met:
             met.add((start, number))
             yield start, cells
-
-
-def altered(random, cells):
-    """The cells with one change."""
-    cells = list(cells)
-    place = random.randrange(len(cells))
-    way = random.randrange(9)
-    if way == 0:
-        return cells[:-1]
-    if way == 1:
-        return cells[:place]
-    if way == 2:
-        return [*cells, random.choice((0, 1, cells[0], LAST_WORD))]
-    if way == 3:
-        return cells[:place] + cells[place + 1 :]
-    if way == 4:
-        return cells[:place] + [random.randrange(3)] + cells[place:]
-    if way == 5:
-        cells[place] = random.choice((2, *WRAPPING_WORDS))
-        return cells
-    if way == 6:
-        other = random.randrange(len(cells))
-        cells[place], cells[other] = cells[other], cells[place]
-        return cells
-    step = random.choice((1, -1))
-    cells[place] = (cells[place] + step) % 2**64
-    return cells
 
 
 def read_back_groups(random):
@@ -118,12 +55,9 @@ def every_cell_groups():
     for table, pool, start in (*PRINTED, *RULES):
         reads = []
         for _, cells in written(table, pool, [(start, SHORT, number) for number in (4, 43)]):
-            reads += [(start, cells[:length]) for length in range(min(len(cells), 12))]
+            reads += [(start, cells[:length]) for length in range(min(len(cells), FIRST_CELLS))]
             reads += [(start, [*cells, more]) for more in (0, 1)]
-            for place, cell in enumerate(cells[:12]):
-                for step in (-1, 1):
-                    if 0 <= cell + step <= LAST_WORD:
-                        reads.append((start, [*cells[:place], cell + step, *cells[place + 1 :]]))
+            reads += [(start, near) for near in off_by_one(cells, FIRST_CELLS)]
         yield table, pool, reads
 
 
@@ -133,8 +67,7 @@ def wrapping_groups():
         reads = []
         for _, cells in written(table, pool, [(start, SHORT, number) for number in (1, 43)]):
             for place in range(min(len(cells), 4)):
-                for word in WRAPPING_WORDS:
-                    reads.append((start, [*cells[:place], word, *cells[place + 1 :]]))
+                reads += [(start, with_cell(cells, place, word)) for word in WRAPPING_WORDS]
         yield table, pool, reads
     pairs = [(1, [x, y]) for x in (0, 1, *WRAPPING_WORDS) for y in (0, 1, *WRAPPING_WORDS)]
     yield (NATS, 0, 0, CONS, 0, 0), (), pairs
@@ -261,7 +194,7 @@ def depth_groups():
         reads = []
         for start in starts:
             for count in (47, 48, 49, 50, 51):
-                whole = [1, 0] * count + [0, 0]
+                whole = zeros(count)
                 reads += [(start, whole), (start, whole[:-1]), (start, whole[:-2]), (start, whole[:-3])]
             for count in (64, 65, 66, 67):
                 whole = [1] * count + [0, 0]
@@ -269,25 +202,24 @@ def depth_groups():
         yield table, (), reads
     lists = []
     for count in (*range(1, 12), 20, 48, 49, 50, 51, 100):
-        whole = [1, 0] * count + [0, 0]
+        whole = zeros(count)
         lists += [(LISTS_START, cells) for cells in (whole, whole[:-2], [*whole, 0], [*whole[:-2], 2])]
-    lists += [(LISTS_START, ([1, 0] * 50 + [0, 0])[:length]) for length in range(96, 103)]
+    lists += [(LISTS_START, zeros(50)[:length]) for length in range(96, 103)]
     yield LISTS, (), lists
 
 
 def order_groups():
     """Of 13, 14 and 15 the first met is given; then leftovers, then 16."""
-    deep = [(NATS, 0, 0), *((SHIFT, node, 1) for node in range(200))]
     too_deep = 200
-    nodes = [*deep, (EXCEPT, 0, 13), (CONS, 201, too_deep), (BELOW, 3, 0), (CONS, 203, too_deep), (CONS, too_deep, 203)]
-    nodes += [(OR, 203, too_deep), (CONS, 199, 203)]
+    nodes = [*shifted(too_deep), (EXCEPT, 0, 13), (CONS, 201, too_deep)]
+    nodes += [(BELOW, 3, 0), (CONS, 203, too_deep), (CONS, too_deep, 203), (OR, 203, too_deep), (CONS, 199, 203)]
     reads = [(202, [cell, *more]) for cell in (12, 13, 14, NUMBERS_END) for more in ([], [0], [300], [300, 0])]
     begun = [[cell, *more] for cell in (0, 1, 2, 3, 199) for more in ([], [0], [3], [250])]
     reads += [(start, cells) for start in (204, 205, 206, 207) for cells in begun]
     reads += [(start, []) for start in range(198, 208)]
     yield words_of(nodes), (), reads
     # a number far past 2^62 inside, then a fault
-    far = [1, 0] * 20 + [0, 0]
+    far = zeros(20)
     more = (BELOW, 2, 0, CONS, 5, 6, EXCEPT, 5, 0, DEP, 6, 0, CONS, 8, 8, OR, 5, 5, EXCEPT, 10, NUMBERS_END - 1)
     table = (*LISTS, *more)
     reads = [(7, far + more) for more in ([], [0], [1], [2], [1, 0], [2, 0])]
@@ -340,12 +272,9 @@ def start_groups():
 
 def unreadable(vectors):
     vectors.table(LISTS)
-    for line in NO_CALLS:
-        vectors.line(line)
-        vectors.call("read", LISTS_START, 1, 6, 0, 0)
+    vectors.between(NO_CALLS, "read", LISTS_START, 1, 6, 0, 0)
     vectors.call("read", 1, *[1] * (MOST_ROW_WORDS + 1))
-    for line in ("table", "", "00", "read 0 0", "read 0 0"):
-        vectors.line(line)
+    vectors.put(("table", "", "00", "read 0 0", "read 0 0"))
 
 
 def groups(random):
@@ -367,12 +296,10 @@ def make(seed):
     vectors = Vectors()
     vectors.call("read", 0, 0)  # no table stands yet
     for table, pool, reads in groups(Random(seed)):
-        vectors.table(table, pool)
-        for start, cells in reads:
-            vectors.call("read", start, *cells)
+        vectors.group(table, pool, [("read", (start, *cells)) for start, cells in reads])
     unreadable(vectors)
     return vectors
 
 
 if __name__ == "__main__":
-    make(int(sys.argv[1]) if len(sys.argv) > 1 else DEFAULT_SEED).print()
+    print_made(make, DEFAULT_SEED)

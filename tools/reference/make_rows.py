@@ -3,31 +3,17 @@
 A group is (table, pool, calls), a call (name, fields). The reader goes over each row that is read.
 """
 
-import sys
 from random import Random
 
 import make_write
 from answer import MOST_ROOM, MOST_ROW_WORDS
+from cells import altered, off_by_one, zeros
 from grammars import CHAIN, CHAIN_START, LAST_WORD, LISTS, LISTS_START, accepted, words_of
-from make_read import altered
+from kinds import BELOW, CONS, EXCEPT, NATS, OR
 from make_write import random_number
-from reference import (
-    BELOW,
-    CONS,
-    DONE,
-    EXCEPT,
-    MOST_CELLS,
-    NATS,
-    NUMBERS_END,
-    OR,
-    SHIFT,
-    is_finite,
-    sizes,
-    write,
-    write_row,
-)
-from shapes import PRINTED, RULES, last_node, of_length
-from vectors import Vectors
+from reference import DONE, MOST_CELLS, NUMBERS_END, is_finite, sizes, write, write_row
+from shapes import PRINTED, RULES, last_node, of_length, shifted
+from vectors import Vectors, print_made
 
 DEFAULT_SEED = 6
 RANDOM_TABLES = 130
@@ -77,7 +63,7 @@ def joined(cases):
     return [cell for case in cases for cell in case]
 
 
-# ---- the documents' rows ----
+# ---- the documents' rows, rows of no items, rows over each rule ----
 
 
 def printed_groups():
@@ -91,10 +77,8 @@ def printed_groups():
         calls += [("read-row", [LISTS_START, room, *cells])]
         calls += [("read-row", [LISTS_START, room, 0, 0, 2]), ("read-row", [LISTS_START, room, 0, 0, 0, 0])]
     calls += read_calls(LISTS_START, 1, [0, 0, 2])
-    for place, cell in enumerate(cells):
-        for step in (-1, 1):
-            if cell + step >= 0:
-                calls += read_calls(LISTS_START, 3, [*cells[:place], cell + step, *cells[place + 1 :]])
+    for near in off_by_one(cells, len(cells)):
+        calls += read_calls(LISTS_START, 3, near)
     yield LISTS, (), calls
 
 
@@ -122,12 +106,13 @@ def rule_groups():
         ]
 
 
+def whole_row_groups():
+    yield from printed_groups()
+    yield from empty_groups()
+    yield from rule_groups()
+
+
 # ---- a refused item at the first, a middle and the last place ----
-
-
-def far_list(count):
-    """The cells of the list of count zeros: 16 from eight on, 13 from fifty on."""
-    return [1, 0] * count + [0, 0]
 
 
 def refused_item_groups():
@@ -138,7 +123,7 @@ def refused_item_groups():
         for number in (NUMBERS_END, NUMBERS_END + 1, LAST_WORD):
             calls.append(write_call(LISTS_START, MOST_ROOM, at_place(numbers, place, number)))
             calls.append(write_call(LISTS_START, 0, at_place(numbers, place, number)))
-        for faulty in ([2, 0], [0, 1], [1, 5, 2], [1], *map(far_list, (8, 9, 49, 50, 60))):
+        for faulty in ([2, 0], [0, 1], [1, 5, 2], [1], *map(zeros, (8, 9, 49, 50, 60))):
             row = joined(at_place(cases, place, faulty))
             for room in (0, 1, 2, 4, 5, MOST_ROOM):
                 calls.append(("read-row", [LISTS_START, room, *row]))
@@ -166,7 +151,7 @@ def deep_item_groups():
             calls += read_calls(CHAIN_START, 1, joined(at_place(cases, place, [1] * count)))
     yield CHAIN, (), calls
     # nats under 200 shifts: 13 for every item, with room or without
-    nodes = [(NATS, 0, 0), *((SHIFT, node, 1) for node in range(200)), (EXCEPT, 0, 13), (CONS, 201, 200)]
+    nodes = [*shifted(200), (EXCEPT, 0, 13), (CONS, 201, 200)]
     calls = []
     for numbers in ([], [0], [NUMBERS_END], [0, 1]):
         calls += [write_call(200, room, numbers) for room in (0, 1, MOST_ROOM)]
@@ -210,6 +195,13 @@ def limit_item_groups():
         yield (NATS, 0, 0, EXCEPT, 0, 0), (), calls
 
 
+def stopped_row_groups():
+    yield from refused_item_groups()
+    yield from deep_item_groups()
+    yield from finite_item_groups()
+    yield from limit_item_groups()
+
+
 # ---- long rows ----
 
 
@@ -225,7 +217,7 @@ def many_items_groups(random):
         yield LISTS, (), calls
 
 
-def long_rows_groups():
+def many_cells_groups():
     """Rows longer than 65,536 cells: the limit counts from each item's first cell. A handful."""
     half = 34_000
     table = of_length((BELOW, 1, 0), half)
@@ -234,13 +226,28 @@ def long_rows_groups():
     calls = [write_call(start, room, [0, 0]) for room in (2 * half, 2 * half - 1, half - 1)]
     calls += [write_call(start, MOST_ROOM, [0, 0, 0]), write_call(start, MOST_ROOM, [0, 1, 0])]
     yield table, (), calls + read_calls(start, 2, row) + [("read-row", [start, 1, *row])]
-    # a short item, then one of 65,536 cells, and of 65,537
-    for cells, after in ((MOST_CELLS - 1, [1, *[0] * (MOST_CELLS - 1)]), (MOST_CELLS, [1, *[0] * MOST_CELLS])):
+    # an item of 65,536 cells between short ones, and one of 65,537 at each place among them
+    for cells, places in ((MOST_CELLS - 1, ("middle",)), (MOST_CELLS, PLACES)):
         table = of_length((BELOW, 1, 0), cells)
         start = last_node(table) + 1
         calls = [write_call(start, room, [0, 1]) for room in (MOST_ROOM, MOST_CELLS + 1)]
-        yield (*table, OR, 0, start - 1), (), calls + read_calls(start, 2, [0, 0, *after])
-    yield (NATS, 0, 0), (), [("read-row", [0, MOST_ROOM, *[7] * MOST_ROW_WORDS])]
+        for place in places:
+            calls += read_calls(start, 3, joined(at_place([[0, 0], [0, 0]], place, [1, *[0] * cells])))
+        yield (*table, OR, 0, start - 1), (), calls
+
+
+def row_limit_groups():
+    """70,000 words are a row; the reader is soon stopped, for it prints a line for each item."""
+    row = [7] * MOST_ROW_WORDS
+    stopped = [7, NUMBERS_END, *row[2:]]
+    calls = [write_call(0, MOST_ROOM, row), ("read-row", [0, MOST_ROOM, *row]), ("reader", [0, *stopped])]
+    yield (NATS, 0, 0), (), calls
+
+
+def long_row_groups(random):
+    yield from many_items_groups(random)
+    yield from many_cells_groups()
+    yield from row_limit_groups()
 
 
 # ---- random rows ----
@@ -297,6 +304,7 @@ NO_CALLS = (
     "write-row 5",
     "write-row 5 ",
     "write-row 5 70001",
+    "write-row 5 18446744073709551615 0",
     "write-row 5 9 01",
     "write-row 5 9 0 ",
     "write-row  5 9 0",
@@ -304,6 +312,7 @@ NO_CALLS = (
     "read-row",
     "read-row 5",
     "read-row 5 70001 0 0",
+    "read-row 5 18446744073709551615 0 0",
     "read-row 5 1 0  0",
     "read-row 5 1 0 18446744073709551616",
     "read-row 5 1 0 0\r",
@@ -319,25 +328,17 @@ NO_CALLS = (
 
 def unreadable(vectors):
     vectors.table(LISTS)
-    for line in NO_CALLS:
-        vectors.line(line)
-        vectors.call("reader", LISTS_START, 0, 0)
-    vectors.call("read-row", 1, MOST_ROOM, *[1] * (MOST_ROW_WORDS + 1))
-    for line in ("table", "x", "", "write-row 0 0", "read-row 0 0", "reader 0"):
-        vectors.line(line)
+    vectors.between(NO_CALLS, "reader", LISTS_START, 0, 0)
+    too_long = [1] * (MOST_ROW_WORDS + 1)
+    vectors.calls([write_call(1, MOST_ROOM, too_long), *read_calls(1, MOST_ROOM, too_long)])
+    vectors.put(("table", "x", "", "write-row 0 0", "read-row 0 0", "reader 0"))
 
 
 def groups(random):
-    yield from printed_groups()
-    yield from empty_groups()
-    yield from rule_groups()
-    yield from refused_item_groups()
-    yield from deep_item_groups()
-    yield from finite_item_groups()
-    yield from limit_item_groups()
+    yield from whole_row_groups()
+    yield from stopped_row_groups()
     yield from random_groups(random)
-    yield from many_items_groups(random)
-    yield from long_rows_groups()
+    yield from long_row_groups(random)
 
 
 def make(seed):
@@ -345,12 +346,10 @@ def make(seed):
     for name in ("write-row", "read-row", "reader"):
         vectors.call(name, 0, 0)  # no table stands yet
     for table, pool, calls in groups(Random(seed)):
-        vectors.table(table, pool)
-        for name, fields in calls:
-            vectors.call(name, *fields)
+        vectors.group(table, pool, calls)
     unreadable(vectors)
     return vectors
 
 
 if __name__ == "__main__":
-    make(int(sys.argv[1]) if len(sys.argv) > 1 else DEFAULT_SEED).print()
+    print_made(make, DEFAULT_SEED)

@@ -3,31 +3,14 @@
 groups(random) gives the calls as (table, pool, [(start, room, number)]); make_read.py reads the same cases back.
 """
 
-import sys
 from random import Random
 
 from answer import MOST_ROOM
 from grammars import GUARDED, LAST_WORD, LISTS, LISTS_START, accepted, careless, mutated, words_of
-from reference import (
-    AGAIN,
-    BELOW,
-    CONS,
-    DONE,
-    EXCEPT,
-    FIX,
-    MOST_CELLS,
-    NATS,
-    NUMBERS_END,
-    OR,
-    POOL,
-    SHIFT,
-    check,
-    is_finite,
-    sizes,
-    write,
-)
-from shapes import PRINTED, RULES, chain, chains, last_node, of_length, recursions, under_excepts
-from vectors import Vectors
+from kinds import AGAIN, BELOW, CONS, EXCEPT, FIX, NATS, OR, POOL
+from reference import DONE, MOST_CELLS, NUMBERS_END, check, is_finite, sizes, write
+from shapes import PRINTED, RULES, chain, chains, last_node, of_length, recursions, shifted, under_excepts
+from vectors import Vectors, print_made
 
 DEFAULT_SEED = 4
 RANDOM_TABLES = 330
@@ -217,9 +200,8 @@ def length_groups():
 
 def order_groups():
     """Where a walk meets both the end of the room and depth 201, the first met is given."""
-    deep = [(NATS, 0, 0), *((SHIFT, node, 1) for node in range(200))]
     too_deep, leaf = 200, 201
-    nodes = [*deep, (BELOW, 1, 0)]
+    nodes = [*shifted(too_deep), (BELOW, 1, 0)]
     first = len(nodes)
     nodes += [(CONS, leaf if bit == 0 else first + bit - 1, leaf if bit == 0 else first + bit - 1) for bit in range(16)]
     full = len(nodes) - 1  # 65,536 cells
@@ -307,23 +289,18 @@ NO_CALLS = (
 
 def unreadable(vectors):
     vectors.table(LISTS)
-    for line in NO_CALLS:
-        vectors.line(line)
-        vectors.call("write", LISTS_START, MOST_ROOM, 43)
-    for line in ("table", "0 1", "x", "write 5 10 0", "write 5 10 0"):
-        vectors.line(line)
+    vectors.between(NO_CALLS, "write", LISTS_START, MOST_ROOM, 43)
+    vectors.put(("table", "0 1", "x", "write 5 10 0", "write 5 10 0"))
 
 
 def make(seed):
     vectors = Vectors()
     vectors.call("write", 0, 1, 0)  # no table stands yet
     for table, pool, calls in groups(Random(seed)):
-        vectors.table(table, pool)
-        for start, room, number in calls:
-            vectors.call("write", start, room, number)
+        vectors.group(table, pool, [("write", call) for call in calls])
     unreadable(vectors)
     return vectors
 
 
 if __name__ == "__main__":
-    make(int(sys.argv[1]) if len(sys.argv) > 1 else DEFAULT_SEED).print()
+    print_made(make, DEFAULT_SEED)

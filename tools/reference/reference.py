@@ -16,10 +16,9 @@ import sys
 from functools import lru_cache
 from typing import NamedTuple
 
-sys.setrecursionlimit(10_000)  # a walk calls itself to depth 201; the rest is slack
+from kinds import AGAIN, BELOW, CONS, DEP, EXCEPT, FIX, NATS, OR, POOL, SHIFT
 
-# Kinds, by the numbers of the table in "The table".
-BELOW, NATS, POOL, SHIFT, OR, CONS, DEP, EXCEPT, FIX, AGAIN = range(10)
+sys.setrecursionlimit(10_000)  # a walk calls itself to depth 201; the rest is slack
 
 # Refusals, by the numbers of "Limits and refusal numbers".
 DONE = 0
@@ -300,13 +299,17 @@ def lengths_fit(table, pool):
     return whole and 1 <= len(table) // WORDS_PER_NODE <= MOST_NODES and len(pool) <= MOST_POOL_WORDS
 
 
+def nodes_of(table):
+    return [tuple(table[at : at + WORDS_PER_NODE]) for at in range(0, len(table), WORDS_PER_NODE)]
+
+
 @lru_cache(maxsize=4)  # many calls in a row ask about one table
 def survey(table, pool):
     """"The whole check: word and pool lengths (1, node 0); then nodes rising, kind known (2) before the row above;
     then cycles." Gives ((refusal, node), grammar)."""
     if not lengths_fit(table, pool):
         return (LENGTH, 0), None
-    nodes = [tuple(table[at : at + WORDS_PER_NODE]) for at in range(0, len(table), WORDS_PER_NODE)]
+    nodes = nodes_of(table)
     known = []
     for node in range(len(nodes)):
         refusal, size = check_node(nodes, pool, known, node)

@@ -7,33 +7,16 @@ from random import Random
 
 import reference
 from answer import answers
+from cells import zeros
 from grammars import ANY, CHAIN, CHAIN_START, GUARDED, LISTS, LISTS_START, accepted, careless, words_of
-from reference import (
-    AGAIN,
-    BELOW,
-    CONS,
-    DEP,
-    ENDLESS,
-    EXCEPT,
-    FIX,
-    NATS,
-    OR,
-    POOL,
-    SHIFT,
-    WORDS_PER_NODE,
-    check,
-    read,
-    read_row,
-    reader,
-    sizes,
-    survey,
-    write,
-    write_row,
-)
+from kinds import AGAIN, BELOW, CONS, DEP, EXCEPT, FIX, NATS, OR, POOL
+from reference import ENDLESS, WORDS_PER_NODE, check, read, read_row, reader, sizes, survey, write, write_row
+from shapes import doubled, shifted
 
 ROOM = 70_000
 ACCEPTED = (0, 0)
 END = 2**62
+UNIT = (BELOW, 1, 0)
 TWO_NATS = (NATS, 0, 0, CONS, 0, 0)
 SEED = 1
 
@@ -49,19 +32,8 @@ def number_of(table, pool, start, cells):
     return refusal if refusal else ("number", number)
 
 
-def zeros(count):
-    """The cells of the list of count zeros, by L."""
-    return [1, 0] * count + [0, 0]
-
-
-def shifts(count, k=1):
-    """nats under count shifts."""
-    return words_of([(NATS, 0, 0), *((SHIFT, node, k) for node in range(count))])
-
-
-def doubled(times):
-    """A table whose node k has 2^k cells, all zero."""
-    return words_of([(BELOW, 1, 0), *((CONS, node, node) for node in range(times))])
+def shifts(count):
+    return words_of(shifted(count))
 
 
 # ---- document 01, "Cases on both sides" ----
@@ -183,7 +155,7 @@ def test_writing_readings():
 
 def test_length_limits():
     cells = [0] * 65_536
-    table = (*doubled(16), CONS, 16, 0)
+    table = words_of([*doubled(UNIT, 16), (CONS, 16, 0)])
     assert cells_of(table, (), 16, 0) == cells
     assert cells_of(table, (), 16, 0, 65_535) == 14
     assert cells_of(table, (), 17, 0) == 14
@@ -193,8 +165,7 @@ def test_length_limits():
     assert number_of(table, (), 17, [*cells, 0]) == 14
     assert number_of((NATS, 0, 0), (), 0, [0] * ROOM) == 15
     # two cases of 40,000 cells make a row
-    nodes = [(BELOW, 1, 0), *((CONS, node, node) for node in range(15))]
-    nodes += [(CONS, 15, 12), (CONS, 16, 11), (CONS, 17, 10), (CONS, 18, 6)]
+    nodes = [*doubled(UNIT, 15), (CONS, 15, 12), (CONS, 16, 11), (CONS, 17, 10), (CONS, 18, 6)]
     row = write_row(words_of(nodes), (), 19, [0, 0], 80_000)
     assert row == (0, 0, 0, [0] * 80_000)
     assert read_row(words_of(nodes), (), 19, row[3], 2) == (0, 0, 0, [0, 0])
@@ -210,7 +181,7 @@ def test_reading_readings():
     assert number_of((NATS, 0, 0), (), 0, [END, 0]) == 15
     assert number_of((NATS, 0, 0, EXCEPT, 0, 0), (), 1, [END]) == ("number", END - 1)
     # the removed case is met before the next part, which is too deep
-    nodes = [(NATS, 0, 0), *((SHIFT, node, 1) for node in range(200)), (EXCEPT, 0, 13), (CONS, 201, 200)]
+    nodes = [*shifted(200), (EXCEPT, 0, 13), (CONS, 201, 200)]
     assert number_of(words_of(nodes), (), 202, [13]) == 15
     assert number_of(words_of(nodes), (), 202, [14]) == 13
 

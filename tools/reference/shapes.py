@@ -4,21 +4,8 @@ A shape is (table, pool, start). Chains nest one kind to any depth; lengths make
 """
 
 from grammars import CHAIN, CHAIN_START, LAST_WORD, LISTS, LISTS_START, words_of
-from reference import (
-    AGAIN,
-    BELOW,
-    CONS,
-    DEP,
-    EXCEPT,
-    FIX,
-    LARGEST_SHIFT,
-    LARGEST_SIZE,
-    NATS,
-    OR,
-    POOL,
-    SHIFT,
-    WORDS_PER_NODE,
-)
+from kinds import AGAIN, BELOW, CONS, DEP, EXCEPT, FIX, NATS, OR, POOL, SHIFT
+from reference import LARGEST_SHIFT, LARGEST_SIZE, WORDS_PER_NODE
 
 ROOT = 2**31  # the whole square root of 2^62
 
@@ -100,6 +87,11 @@ def chain(bottom, link, length):
     """A first node, and over it nodes that each name the one below; link(below) gives their words."""
     first = len(bottom)
     return words_of([*bottom, *(link(node - 1) for node in range(first, first + length))])
+
+
+def shifted(count):
+    """nats under so many shifts by one, as nodes: node k takes k + 1 visits."""
+    return [(NATS, 0, 0), *((SHIFT, node, 1) for node in range(count))]
 
 
 CHAIN_LENGTH = 202  # enough for a visit at depth 201

@@ -1,2 +1,3 @@
 -- What the proofs of more than one call cite.
 mod Fields
+mod Asking

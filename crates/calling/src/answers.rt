@@ -9,6 +9,12 @@ pub fn unreadable(page: &mut [u8; PAGE_BYTES], used: usize) -> usize {
     put_text(page, used, b"unreadable\n")
 }
 
+// The line is left open, since the reader prints the cells too.
+pub fn number(page: &mut [u8; PAGE_BYTES], used: usize, found: u64) -> usize {
+    let named = put_text(page, used, b"number ");
+    put_number(page, named, found)
+}
+
 // The line is left open, since some calls print more of a refusal.
 pub fn refused(page: &mut [u8; PAGE_BYTES], used: usize, refusal: Refusal, node: u64) -> usize {
     let said = put_text(page, used, b"refused ");

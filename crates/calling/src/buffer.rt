@@ -1,5 +1,9 @@
 // The buffer that is lent to a call, with start words that show which of them the call changed.
+ghost use Prim.Native.Nat.{_≤_};
+ghost use lib.ListN.{length};
 use super::page::PAGE_BYTES;
+use super::page::put_number;
+use super::page::put_numbers;
 use super::page::put_text;
 
 pub const MOST_ROOM: usize = 70000;
@@ -35,4 +39,20 @@ pub fn end_line(page: &mut [u8; PAGE_BYTES], used: usize, buffer: &[u64], writte
         return put_text(page, used, b" CHANGED\n");
     }
     put_text(page, used, b"\n")
+}
+
+// So many cells, and the words that the call wrote: the cells themselves, or their numbers.
+pub fn listed_line(
+    page: &mut [u8; PAGE_BYTES],
+    used: usize,
+    cells: usize,
+    buffer: &[u64],
+    written: usize,
+) -> usize
+    requires { ⌜ written ≤ length (now buffer) ⌝ }
+{
+    let counted = put_number(page, used, cells as u64);
+    let named = put_text(page, counted, b" cells:");
+    let listed = put_numbers(page, named, &buffer[..written]);
+    end_line(page, listed, buffer, written)
 }

@@ -10,6 +10,9 @@ use super::line::same;
 use super::line::word_size;
 use super::page::PAGE_BYTES;
 use super::read;
+use super::reader;
+use super::row;
+use super::row::Way;
 use super::state::State;
 use super::write;
 
@@ -17,6 +20,9 @@ enum Call {
     Check,
     Write,
     Read,
+    WriteRow,
+    ReadRow,
+    Reader,
     Unknown,
 }
 
@@ -29,6 +35,15 @@ fn call_of(word: &[u8]) -> Call {
     }
     if same(word, b"read") {
         return Call::Read;
+    }
+    if same(word, b"write-row") {
+        return Call::WriteRow;
+    }
+    if same(word, b"read-row") {
+        return Call::ReadRow;
+    }
+    if same(word, b"reader") {
+        return Call::Reader;
     }
     Call::Unknown
 }
@@ -79,6 +94,9 @@ fn answer_call(
         Call::Check => check::answer(rest, table, pool, page, used),
         Call::Write => write::answer(rest, table, pool, fields, buffer, page, used),
         Call::Read => read::answer(rest, table, pool, fields, page, used),
+        Call::WriteRow => row::answer(Way::Write, rest, table, pool, fields, buffer, page, used),
+        Call::ReadRow => row::answer(Way::Read, rest, table, pool, fields, buffer, page, used),
+        Call::Reader => reader::answer(rest, table, pool, fields, page, used),
         Call::Unknown => unreadable(page, used),
     }
 }

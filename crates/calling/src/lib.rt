@@ -1,12 +1,15 @@
 // Every public call from a shell: the lines of an input, and what each call prints. Nothing is
 // decided here: words are lent, a call is made, and what came back is printed.
 mod answers;
+mod asked;
 mod buffer;
 mod calls;
 mod check;
 mod line;
 mod page;
 mod read;
+mod reader;
+mod row;
 mod state;
 mod write;
 

@@ -1,20 +1,16 @@
 // `read START CELL CELL ..`: the number of a case, from its cells.
 ghost use Prim.Native.Nat.{_≤_};
 ghost use lib.ListN.{length};
+use super::answers::number;
 use super::answers::refused_line;
 use super::answers::unreadable;
-use super::line::FIELDS_AT;
+use super::asked::AFTER_START;
+use super::asked::Taken;
+use super::asked::take;
 use super::line::MOST_FIELDS;
-use super::line::MOST_ROW;
 use super::page::PAGE_BYTES;
-use super::page::put_number;
 use super::page::put_text;
 use cases::Found;
-use lines::line::Line;
-use lines::line::numbers_at;
-
-// Where the first cell is among the fields: START stands before it.
-const CELLS_AT: usize = 1;
 
 pub fn answer(
     rest: &[u8],
@@ -24,15 +20,9 @@ pub fn answer(
     page: &mut [u8; PAGE_BYTES],
     used: usize,
 ) -> usize {
-    let Line::Numbers(count, _) = numbers_at(rest, FIELDS_AT, fields) else {
+    let Taken::Count(count) = take(rest, AFTER_START, fields) else {
         return unreadable(page, used);
     };
-    if count < CELLS_AT {
-        return unreadable(page, used);
-    }
-    if CELLS_AT + MOST_ROW < count {
-        return unreadable(page, used);
-    }
     let start = fields[0] as usize;
     call(table, pool, start, fields, count, page, used)
 }
@@ -49,11 +39,10 @@ fn call(
 ) -> usize
     requires { ⌜ (1 ≤ count) × (count ≤ length (now fields)) ⌝ }
 {
-    match cases::read(table, pool, start, &fields[CELLS_AT..count]) {
-        Found::Number(number) => {
-            let named = put_text(page, used, b"number ");
-            let numbered = put_number(page, named, number);
-            put_text(page, numbered, b"\n")
+    match cases::read(table, pool, start, &fields[AFTER_START..count]) {
+        Found::Number(found) => {
+            let said = number(page, used, found);
+            put_text(page, said, b"\n")
         }
         Found::Refused(refusal, node) => refused_line(page, used, refusal, node),
     }

@@ -3,18 +3,15 @@ ghost use Prim.Native.Nat.{_≤_};
 ghost use lib.ListN.{length};
 use super::answers::refused;
 use super::answers::unreadable;
+use super::asked::Lent;
+use super::asked::take_lent;
 use super::buffer::MOST_ROOM;
 use super::buffer::end_line;
 use super::buffer::fill;
-use super::line::FIELDS_AT;
+use super::buffer::listed_line;
 use super::line::MOST_FIELDS;
 use super::page::PAGE_BYTES;
-use super::page::put_number;
-use super::page::put_numbers;
-use super::page::put_text;
 use cases::Written;
-use lines::line::Line;
-use lines::line::numbers_at;
 
 // START, ROOM and NUMBER.
 const FIELDS: usize = 3;
@@ -28,18 +25,13 @@ pub fn answer(
     page: &mut [u8; PAGE_BYTES],
     used: usize,
 ) -> usize {
-    let Line::Numbers(count, _) = numbers_at(rest, FIELDS_AT, fields) else {
+    let Lent::Of(start, room, count) = take_lent(rest, fields) else {
         return unreadable(page, used);
     };
     if count != FIELDS {
         return unreadable(page, used);
     }
-    let start = fields[0] as usize;
-    let room = fields[1] as usize;
     let number = fields[2];
-    if MOST_ROOM < room {
-        return unreadable(page, used);
-    }
     lend(table, pool, start, number, buffer, room, page, used)
 }
 
@@ -70,12 +62,7 @@ fn call(
 ) -> usize {
     fill(cells);
     match cases::write(table, pool, start, number, cells) {
-        Written::Done(count) => {
-            let counted = put_number(page, used, count as u64);
-            let named = put_text(page, counted, b" cells:");
-            let listed = put_numbers(page, named, &cells[..count]);
-            end_line(page, listed, cells, count)
-        }
+        Written::Done(count) => listed_line(page, used, count, cells, count),
         Written::Refused(refusal, node) => {
             let said = refused(page, used, refusal, node);
             end_line(page, said, cells, 0)

@@ -1,5 +1,4 @@
 // From a number to cells.
-ghost use mathlib.Core.Path.{_≡_};
 ghost use Rattle.checked.specs.Prepared.{Planning};
 ghost use Rattle.cases.specs.Write.{Wrote, WrotePlanned};
 use checked::fits::DEPTH;

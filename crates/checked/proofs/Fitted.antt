@@ -3,17 +3,17 @@
 --   fitted-is      the walk meets cells only and they are few enough, so they are counted
 --   fitted-cells   the cells are counted, so the number may be asked for, and its walk meets cells only
 -- Assumes nothing.
-use mathlib.Core.Path.{_≡_, refl, sym, ap, _∙_}
+use mathlib.Core.Path.{_≡_, refl, sym, ap}
 use mathlib.Core.Bool.{Bool, true, false}
 use mathlib.Core.List.{List, [], _∷_, map}
-use Prim.Native.Nat.{ℕ, zero, suc, _-_, _^_, _≤_, _<_}
+use Prim.Native.Nat.{ℕ, zero, suc, _-_, _^_, _≤_}
 use native.Mathlib.Nat.{not-suc-le-zero, le-of-suc-le-suc}
 use native.Mathlib.Omega.{arith}
 use lib.Dec.{ltb}
 use lib.ListN.{length}
 use borrow.Author.Tests.{lt-ltb, ltb-true}
 use Rattle.numbers.specs.Pick.{pick}
-use Rattle.numbers.specs.Size.{Size, finite, endless, Below}
+use Rattle.numbers.specs.Size.{Size, finite, endless}
 use Rattle.grammar.specs.declared.refusal.Refusal.the-variants.{NoSuchNumber}
 use Rattle.grammar.proofs.Tests.{and-left, and-right}
 use Rattle.walk.specs.Grammar.{Grammar}

@@ -2,7 +2,7 @@
 --   front-large, front-big, front-wrong   refused, by the walk or by 16
 --   front-there     a number, and the cells after its case: a case has at least one cell, so the place moves on
 -- Assumes nothing.
-use mathlib.Core.Path.{_≡_, refl, sym, ap, _∙_}
+use mathlib.Core.Path.{_≡_, refl, ap, _∙_}
 use mathlib.Core.Logic.{inl}
 use mathlib.Core.List.{List, _++_}
 use Prim.Native.Nat.{ℕ, _+_, _-_, _^_, _≤_, _<_}
@@ -13,8 +13,8 @@ use Rattle.grammar.specs.declared.refusal.Refusal.{Refusal}
 use Rattle.grammar.specs.declared.refusal.Refusal.the-variants.{NumberTooLarge}
 use Rattle.walk.specs.Grammar.{planned}
 use Rattle.walk.specs.Walk.{depth}
-use Rattle.walk.specs.Room.{Case, most}
-use Rattle.walk.specs.Reading.{Read, read, taken}
+use Rattle.walk.specs.Room.{most}
+use Rattle.walk.specs.Reading.{Read, taken}
 use Rattle.walk.specs.Got.{Took}
 use Rattle.walk.specs.Look.{Reading}
 use Rattle.walk.specs.declared.number.Got.{Got}
@@ -24,7 +24,7 @@ use Rattle.walk.proofs.Back.{shifted-none}
 use Rattle.walk.proofs.Only.{only}
 use Rattle.walk.proofs.Strides.{case-some}
 use Rattle.checked.specs.Prepared.{Stands}
-use Rattle.checked.specs.Item.{number, refused, frontOf, front, Stood}
+use Rattle.checked.specs.Item.{frontOf, front, Stood}
 use Rattle.checked.specs.declared.item.Item.the-variants.{Number, Not}
 
 pub reads-of : {plan p : List ℕ} {i : ℕ} → Stands plan p i → Reading plan p i 0

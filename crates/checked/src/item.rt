@@ -1,5 +1,4 @@
 // One case at the front of cells, on a checked table: "the walk, then 16".
-ghost use mathlib.Core.Path.{_≡_};
 ghost use Prim.Native.Nat.{_≤_};
 ghost use lib.ListN.{length, drop};
 ghost use Rattle.walk.specs.Grammar.{planned};

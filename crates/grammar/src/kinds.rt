@@ -1,6 +1,5 @@
 // The row of each kind of document 01's table: its checks in their order, and then its size.
 ghost use mathlib.Core.Path.{_≡_};
-ghost use mathlib.Core.Bool.{true};
 ghost use Prim.Native.Nat.{ℕ, _+_, _*_, _<_, _≤_};
 ghost use lib.ListN.{length, getD, take, drop};
 ghost use Rattle.numbers.specs.Size.{sizeOf, codeOf};

@@ -3,7 +3,7 @@ ghost use mathlib.Core.Path.{_≡_};
 ghost use mathlib.Core.Bool.{_||_};
 ghost use Prim.Native.Nat.{_*_, _<_, _≤_};
 ghost use lib.Dec.{eqb};
-ghost use lib.ListN.{length, getD, replicate};
+ghost use lib.ListN.{length, replicate};
 ghost use Rattle.grammar.specs.Table.{nodes};
 ghost use Rattle.grammar.specs.Node.{nodeOf, spare};
 ghost use Rattle.grammar.specs.Used.{usedAt};

@@ -1,6 +1,6 @@
 // except: the part without its number b.
 ghost use mathlib.Core.Path.{_≡_};
-ghost use Prim.Native.Nat.{_+_, _^_, _≤_};
+ghost use Prim.Native.Nat.{_+_, _≤_};
 ghost use Rattle.numbers.specs.Joined.{capped, limit};
 ghost use Rattle.numbers.specs.Except.{split, join};
 use super::joined::Joined;

@@ -18,19 +18,18 @@ use lib.Seq.{drop-append-seam, drop-drop}
 use borrow.Author.Tests.{lt-ltb, ltb-true}
 use Rattle.numbers.specs.Pick.{pick}
 use Rattle.grammar.specs.Table.{nodes}
-use Rattle.grammar.specs.Sizes.{sizeAt, sizes}
 use Rattle.grammar.specs.Verdict.{verdict}
 use Rattle.grammar.specs.declared.refusal.Refusal.{Refusal}
 use Rattle.grammar.specs.declared.refusal.Refusal.the-variants.{NumberTooLarge}
 use Rattle.grammar.specs.declared.refusal.Verdict.the-variants.{Accepted}
 use Rattle.walk.specs.Grammar.{Grammar, grammarOf}
-use Rattle.walk.specs.Walk.{cell, walk, cells, depth}
+use Rattle.walk.specs.Walk.{walk, cells, depth}
 use Rattle.walk.specs.Room.{Case, most}
 use Rattle.walk.specs.Reading.{Read, read, wrong, taken}
 use Rattle.walk.proofs.Back.{shifted-none}
 use Rattle.walk.proofs.Only.{only}
 use Rattle.walk.proofs.Strides.{case-some}
-use Rattle.checked.specs.Fits.{Asked, roomFor, fitted}
+use Rattle.checked.specs.Fits.{Asked, fitted}
 use Rattle.checked.specs.Item.{Front, number, refused, frontOf, front}
 use Rattle.checked.specs.declared.fits.Fit.the-variants.{Cells}
 use Rattle.checked.proofs.Walking.{good-of}

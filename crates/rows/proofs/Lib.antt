@@ -3,5 +3,6 @@ pub mod Turns
 pub mod Gathering
 pub mod Cuts
 pub mod Answers
+pub mod Outcomes
 pub mod OneList
 mod Lent

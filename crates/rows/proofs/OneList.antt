@@ -11,8 +11,8 @@
 --   reader-done, reader-refused   the reader, asked again and again, gives what row reading gives, item by item, place by place
 -- "No case is the beginning of a different case" is `no-beginning` of `Rattle.cases.proofs.BothSides`.
 -- Assumes nothing.
-use mathlib.Core.Path.{_≡_, refl, sym, ap, _∙_}
-use mathlib.Core.List.{List, _++_, append-nil}
+use mathlib.Core.Path.{_≡_, sym, ap, _∙_}
+use mathlib.Core.List.{List, _++_}
 use Prim.Native.Nat.{ℕ, suc, _+_, _≤_, _<_}
 use native.Mathlib.Omega.{arith}
 use lib.ListN.{length, take}

@@ -1,6 +1,5 @@
 // The second pass: it writes. The buffer's front holds as many of the case's cells as fit, the rest
 // keeps its words, and the count is returned.
-ghost use mathlib.Core.Path.{_≡_};
 ghost use Prim.Native.Nat.{_+_, _^_, _≤_};
 ghost use Rattle.walk.specs.Grammar.{planned};
 ghost use Rattle.walk.specs.Walk.{walk, cells};

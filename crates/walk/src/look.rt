@@ -1,15 +1,13 @@
 // What a reading visit finds before its parts.
 ghost use mathlib.Core.Path.{_≡_};
-ghost use mathlib.Core.Bool.{true, false};
 ghost use Prim.Native.Nat.{ℕ, _+_, _*_, _-_, _^_, _<_, _≤_};
-ghost use lib.ListN.{length, getD, take, drop};
-ghost use Rattle.graph.specs.Ways.{has};
+ghost use lib.ListN.{length, take, drop};
 ghost use mathlib.Core.List.{List};
 ghost use Rattle.grammar.specs.Node.{below, nats, or};
 ghost use Rattle.grammar.specs.Node.{pool as poolNode};
 ghost use Rattle.grammar.specs.Plan.{sizeIn};
 ghost use Rattle.walk.specs.Grammar.{nodeIn};
-ghost use Rattle.walk.specs.Reading.{placeOf, ahead};
+ghost use Rattle.walk.specs.Reading.{ahead};
 ghost use Rattle.walk.specs.Look.{seen, Reading, placed, celled};
 use super::number::How;
 use grammar::kinds::AGAIN;

@@ -1,6 +1,5 @@
 // Numbers on the way up a reading walk: exact below 2^62 + 256, and Big from there on.
 ghost use mathlib.Core.Path.{_≡_};
-ghost use Prim.Native.Nat.{_≤_};
 ghost use Rattle.walk.specs.Got.{gotOf, grownOf, biggerOf, SmallHow};
 use grammar::refusal::Refusal;
 use numbers::joined::Joined;

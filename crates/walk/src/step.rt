@@ -1,6 +1,6 @@
 // What one visit does with a number: document 01, "From a number to cells", kind by kind.
 ghost use mathlib.Core.Path.{_≡_};
-ghost use mathlib.Core.List.{List, map};
+ghost use mathlib.Core.List.{List};
 ghost use Prim.Native.Nat.{ℕ, _+_, _*_, _^_, _<_, _≤_};
 ghost use lib.ListN.{length, getD, take, drop};
 ghost use Rattle.numbers.specs.Dep.{inTurn};
@@ -8,7 +8,7 @@ ghost use Rattle.grammar.specs.Node.{or, cons, dep};
 ghost use Rattle.grammar.specs.Rows.{count};
 ghost use Rattle.grammar.specs.Plan.{sizeIn};
 ghost use Rattle.walk.specs.Grammar.{planned};
-ghost use Rattle.walk.specs.Visit.{stepOf, visit, tagged, paired, counts};
+ghost use Rattle.walk.specs.Visit.{stepOf, visit, tagged, counts};
 ghost use Rattle.walk.specs.Good.{Visits, DepReady};
 use grammar::kinds::AGAIN;
 use grammar::kinds::CONS;

@@ -1,5 +1,4 @@
 // Reading: from cells to a number, in one pass.
-ghost use mathlib.Core.Path.{_≡_};
 ghost use Prim.Native.Nat.{_+_, _-_, _*_, _^_, _≤_};
 ghost use lib.ListN.{drop};
 ghost use Rattle.walk.specs.Grammar.{planned};

@@ -2,10 +2,9 @@
 --   more-cells, more-cells-big        cells left over
 --   number-is, number-large, big-is   a number that is asked for, or is not
 --   wrong-is                          the walk's own refusal
---   reads-of, found-11, found-is      the walk of an accepted table
+--   found-11, found-is                the walk of an accepted table
 -- Assumes nothing.
-use mathlib.Core.Path.{_≡_, refl, _∙_}
-use mathlib.Core.Logic.{inl}
+use mathlib.Core.Path.{_≡_, _∙_}
 use mathlib.Core.List.{List}
 use Prim.Native.Nat.{ℕ, _^_, _≤_, _<_}
 use native.Mathlib.Omega.{arith}
@@ -21,7 +20,6 @@ use Rattle.walk.specs.Grammar.{planned}
 use Rattle.walk.specs.Walk.{depth}
 use Rattle.walk.specs.Room.{most}
 use Rattle.walk.specs.Reading.{Read, taken}
-use Rattle.walk.specs.Look.{Reading}
 use Rattle.walk.specs.Got.{Took}
 use Rattle.walk.specs.declared.number.Got.{Got}
 use Rattle.walk.specs.declared.number.Got.the-variants.{Number as Read-number, Big, Wrong}
@@ -30,7 +28,7 @@ use Rattle.checked.specs.Prepared.{Planning, Prepared}
 use Rattle.cases.specs.Read.{found, finds, reads}
 use Rattle.cases.specs.declared.reading.Found.{Found}
 use Rattle.cases.specs.declared.reading.Found.the-variants.{Number, Refused}
-use Rattle.checked.proofs.Walking.{same-grammar, walkable}
+use Rattle.checked.proofs.Walking.{same-grammar}
 
 module _ {cells : List ℕ} {g : Got} {least : ℕ} {w : Read} (lo : 2 ^ 62 ≤ least) (h : Took least w cells most g) where
   module _ {n k : ℕ} (e : g ≡ Read-number n k) where
@@ -66,9 +64,6 @@ module _ {t p plan : List ℕ} (h : Planning t p plan) (i : ℕ) where
   found-11 cs l = rw (le-ltb i (nodes t) l)
 
   module _ (l : i < nodes t) where
-    pub reads-of : Reading plan p i 0
-    reads-of = record { walks = walkable h; node = l; single = inl refl }
-
     pub found-is : (cs : List ℕ) {r : Found} → r ≡ found (taken (planned plan p) depth i 0 most cs) → r ≡ finds t p i cs
     unfolding finds
     found-is cs e = e ∙ rw (lt-ltb i (nodes t) l, same-grammar h)

@@ -2,7 +2,6 @@
 -- Assumes nothing.
 use borrow.Author.Needs.{needs}
 use native.Mathlib.Omega.{arith}
-use lib.ListN.{length-take}
 use Rattle.cases.proofs.Outcomes.{written-fits}
 use Rattle.calling.proofs.write.call.Statement.{statement}
 use Rattle.calling.proofs.write.call.Tie as tie
@@ -14,13 +13,7 @@ call-spec =
     (λ c κs. search needs)
     (λ c κs. search needs)
     (λ c. search needs)
-    (λ c κs. search needs)
-    (λ c. search needs)
-    (λ c κs. search needs)
-    (λ c. omega (arith, written-fits (c .before .before .before .before .before .before .before .before .before .before .before .write .ensures)))
-    (λ c. simp length-take (omega (arith, written-fits (c .before .before .before .before .before .before .before .before .before .before .before .before .write .ensures))))
-    (λ c κs. search needs)
-    (λ c κs. search needs)
+    (λ c κs. omega (arith, written-fits (c .before .before .before .before .before .before .before .write .ensures) _ (c .before .before .before .count .given .1), c .before .before .before .before .before .before .cells2 .given))
     (λ c. search needs)
     (λ c κs. search needs)
     (λ c κs. search needs)

@@ -1,0 +1,21 @@
+-- `calling::row::read` prints no more numbers than words were lent.
+-- Assumes nothing.
+use borrow.Author.Needs.{needs}
+use native.Mathlib.Omega.{arith}
+use Rattle.rows.proofs.Outcomes.{got-fits}
+use Rattle.calling.proofs.row.read.Statement.{statement}
+use Rattle.calling.proofs.row.read.Tie as tie
+
+pub read-spec : {M : Type 1} → statement M
+read-spec =
+    tie.close
+    (tie.spec
+    (λ c κs. search needs)
+    (λ c. search needs)
+    (λ c κs. omega (arith, got-fits (c .before .before .before .before .before .before .before .read-row .ensures) (c .before .before .before .items .given .1), c .before .before .before .before .before .before .numbers .given))
+    (λ c. search needs)
+    (λ c κs. search needs)
+    (λ c. search needs)
+    (λ c. search needs)
+    (λ c. search needs)
+    (λ c. search needs))

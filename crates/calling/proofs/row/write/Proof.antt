@@ -1,0 +1,21 @@
+-- `calling::row::write` prints no more cells than words were lent.
+-- Assumes nothing.
+use borrow.Author.Needs.{needs}
+use native.Mathlib.Omega.{arith}
+use Rattle.rows.proofs.Outcomes.{row-fits}
+use Rattle.calling.proofs.row.write.Statement.{statement}
+use Rattle.calling.proofs.row.write.Tie as tie
+
+pub write-spec : {M : Type 1} → statement M
+write-spec =
+    tie.close
+    (tie.spec
+    (λ c κs. search needs)
+    (λ c. search needs)
+    (λ c κs. omega (arith, row-fits (c .before .before .before .before .before .before .before .write-row .ensures) (c .before .before .before .items .given .1), c .before .before .before .before .before .before .cells .given))
+    (λ c. search needs)
+    (λ c κs. search needs)
+    (λ c. search needs)
+    (λ c. search needs)
+    (λ c. search needs)
+    (λ c. search needs))

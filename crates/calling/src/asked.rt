@@ -1,0 +1,58 @@
+// What a line asks of its call: START, ROOM where a buffer is lent, and a row of words behind them.
+ghost use Prim.Native.Nat.{_≤_};
+ghost use Rattle.calling.specs.Asked.{Counted, Lends};
+use super::buffer::MOST_ROOM;
+use super::line::FIELDS_AT;
+use super::line::MOST_FIELDS;
+use super::line::MOST_ROW;
+use lines::line::Line;
+use lines::line::numbers_at;
+
+// Where the row is among the fields: START alone stands before it, or START and ROOM.
+pub const AFTER_START: usize = 1;
+
+pub const AFTER_ROOM: usize = 2;
+
+// How many fields there are, with those before the row.
+pub enum Taken {
+    Count(usize),
+    Unreadable,
+}
+
+// START, ROOM, and how many fields there are with these two.
+pub enum Lent {
+    Of(usize, usize, usize),
+    Unreadable,
+}
+
+// A row with `before` fields before it.
+pub fn take(rest: &[u8], before: usize, fields: &mut [u64; MOST_FIELDS]) -> Taken
+    requires { ⌜ before ≤ 2 ⌝ }
+    ensures { λ r. ⌜ Counted before r ⌝ }
+{
+    let Line::Numbers(count, _) = numbers_at(rest, FIELDS_AT, fields) else {
+        return Taken::Unreadable;
+    };
+    if count < before {
+        return Taken::Unreadable;
+    }
+    if before + MOST_ROW < count {
+        return Taken::Unreadable;
+    }
+    Taken::Count(count)
+}
+
+// START and ROOM before the row.
+pub fn take_lent(rest: &[u8], fields: &mut [u64; MOST_FIELDS]) -> Lent
+    ensures { λ r. ⌜ Lends r ⌝ }
+{
+    let Taken::Count(count) = take(rest, AFTER_ROOM, fields) else {
+        return Lent::Unreadable;
+    };
+    let start = fields[0] as usize;
+    let room = fields[1] as usize;
+    if MOST_ROOM < room {
+        return Lent::Unreadable;
+    }
+    Lent::Of(start, room, count)
+}

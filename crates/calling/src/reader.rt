@@ -1,0 +1,80 @@
+// `reader START CELL CELL ..`: the cases of a row, asked for one at a time.
+ghost use Prim.Native.Nat.{_≤_};
+ghost use lib.ListN.{length};
+use super::answers::number;
+use super::answers::refused_line;
+use super::answers::unreadable;
+use super::asked::AFTER_START;
+use super::asked::Taken;
+use super::asked::take;
+use super::line::MOST_FIELDS;
+use super::page::PAGE_BYTES;
+use super::page::put_number;
+use super::page::put_text;
+use rows::Next;
+
+pub fn answer(
+    rest: &[u8],
+    table: &[u64],
+    pool: &[u64],
+    fields: &mut [u64; MOST_FIELDS],
+    page: &mut [u8; PAGE_BYTES],
+    used: usize,
+) -> usize {
+    let Taken::Count(count) = take(rest, AFTER_START, fields) else {
+        return unreadable(page, used);
+    };
+    let start = fields[0] as usize;
+    call(table, pool, start, fields, count, page, used)
+}
+
+// The asks over the cells among the first `count` fields.
+fn call(
+    table: &[u64],
+    pool: &[u64],
+    start: usize,
+    fields: &[u64],
+    count: usize,
+    page: &mut [u8; PAGE_BYTES],
+    used: usize,
+) -> usize
+    requires { ⌜ (1 ≤ count) × (count ≤ length (now fields)) ⌝ }
+{
+    ask_on(table, pool, start, &fields[AFTER_START..count], page, used)
+}
+
+// Asks until the row's end or a refusal: an item moves the place on, so one of the two comes.
+fn ask_on(
+    table: &[u64],
+    pool: &[u64],
+    start: usize,
+    row: &[u64],
+    page: &mut [u8; PAGE_BYTES],
+    used: usize,
+) -> usize {
+    let mut waiting = used;
+    let mut at: usize = 0;
+    loop {
+        let stride = rows::read_at(table, pool, start, row, at);
+        let handed = stride.answer;
+        match handed {
+            Next::Item(found, cells) => {
+                waiting = item_line(page, waiting, found, cells);
+                at = stride.at;
+            }
+            Next::End => {
+                return put_text(page, waiting, b"end\n");
+            }
+            Next::Refused(refusal, node) => {
+                return refused_line(page, waiting, refusal, node);
+            }
+        }
+    }
+}
+
+fn item_line(page: &mut [u8; PAGE_BYTES], used: usize, found: u64, cells: usize) -> usize {
+    let said = number(page, used, found);
+    let parted = put_text(page, said, b", ");
+    let counted = put_number(page, parted, cells as u64);
+    put_text(page, counted, b" cells\n")
+}

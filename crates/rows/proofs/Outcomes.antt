@@ -1,0 +1,94 @@
+-- What is known by an answer, for every input.
+--   row-fits     a row that is done: no more cells than words were lent
+--   got-fits     a row that is read: no more numbers than words were lent
+--   next-moves   an item of the reader: it has a cell, and ends within the row
+-- Assumes nothing.
+use mathlib.Core.Path.{_≡_, refl, sym, ap, _∙_}
+use mathlib.Core.Bool.{Bool, true, false}
+use mathlib.Core.List.{List, [], _∷_}
+use Prim.Native.Nat.{ℕ, _-_, _≤_, _<_}
+use native.Mathlib.Omega.{arith}
+use lib.Dec.{ltb}
+use lib.ListN.{length, drop, length-append, length-drop}
+use borrow.Author.Tests.{ltb-true}
+use Rattle.numbers.specs.Pick.{pick}
+use Rattle.grammar.specs.Table.{nodes}
+use Rattle.grammar.specs.Verdict.{verdict}
+use Rattle.grammar.specs.declared.refusal.Refusal.the-variants.{NoSuchStart}
+use Rattle.grammar.specs.declared.refusal.Verdict.{Verdict}
+use Rattle.grammar.specs.declared.refusal.Verdict.the-variants.{Accepted, Refused as Refuses}
+use Rattle.walk.specs.Grammar.{grammarOf}
+use Rattle.walk.proofs.Strides.{case-some}
+use Rattle.checked.specs.Item.{Front, number, refused, front}
+use Rattle.rows.specs.Row.{judged}
+use Rattle.rows.specs.WriteRow.{inTurn, writesRowPlanned, writesRow, WroteRow}
+use Rattle.rows.specs.ReadRow.{Gathered, all, stopped, gather, answered, readsRowPlanned, readsRow, GotRow}
+use Rattle.rows.specs.Reader.{handed, next, nextPlanned, nextOf}
+use Rattle.rows.specs.Reader as Readers
+use Rattle.rows.specs.declared.answer.Row.{Row}
+use Rattle.rows.specs.declared.answer.Row.the-variants.{Done, Refused}
+use Rattle.rows.specs.declared.reader.Next.{Next}
+use Rattle.rows.specs.declared.reader.Next.the-variants.{Item, End, Refused as Not-handed}
+use Rattle.rows.proofs.Turns.{done-row}
+use Rattle.rows.proofs.Cuts.{gathered-fits, case-front}
+
+-- ---- an answer that is done: the table is accepted, and the start is in it
+judged-done : (v : Verdict) (r : Row) {m c : ℕ} → judged v r ≡ Done m c → r ≡ Done m c
+judged-done Accepted r e = e
+judged-done (Refuses x k) r e = let z : _≡_ {A = ℕ} 0 1 = cc in absurd (omega arith)
+
+started-done : (b : Bool) (r : Row) {m c : ℕ} → pick b r (Refused NoSuchStart 0 0) ≡ Done m c → r ≡ Done m c
+started-done true r e = e
+started-done false r e = let z : _≡_ {A = ℕ} 0 1 = cc in absurd (omega arith)
+
+answered-fits : (used room : ℕ) (x : Gathered) → ((ns : List ℕ) → x ≡ all ns → length ns ≤ room) → {m c : ℕ} → answered used x ≡ Done m c → m ≤ room
+answered-fits used room (all ns) f {m} e = let s : length ns ≡ m = cc in omega (arith, f ns refl)
+answered-fits used room (stopped r k) f e = let z : _≡_ {A = ℕ} 0 1 = cc in absurd (omega arith)
+
+module _ {t p : List ℕ} {i : ℕ} where
+  pub row-fits : {ns old last : List ℕ} {r : Row} → WroteRow t p i ns old last r → {m c : ℕ} → r ≡ Done m c → c ≤ length old
+  unfolding writesRow writesRowPlanned
+  row-fits {ns} {old} h e =
+      done-row (grammarOf t p) i (length old) ns
+      (started-done (ltb i (nodes t)) (inTurn (grammarOf t p) i (length old) ns) (judged-done (verdict t p) (writesRowPlanned t p i (length old) ns) (sym (h .is) ∙ e))) .2
+
+  pub got-fits : {cs old last : List ℕ} {r : Row} → GotRow t p i cs old last r → {m c : ℕ} → r ≡ Done m c → m ≤ length old
+  unfolding readsRow readsRowPlanned
+  got-fits {cs} {old} h e =
+      let x = gather (grammarOf t p) i (length old) cs in
+      answered-fits (length cs) (length old) x (λ ns f. gathered-fits (grammarOf t p) i (length old) cs f)
+      (started-done (ltb i (nodes t)) (answered (length cs) x) (judged-done (verdict t p) (readsRowPlanned t p i (length old) cs) (sym (h .is) ∙ e)))
+
+-- ---- the reader
+module _ (t p : List ℕ) (i n k : ℕ) where
+  abbrev Moves : List ℕ → Type 0
+  Moves cs = (0 < length cs) × (0 < k) × (k ≤ length cs)
+
+  item-moves : verdict t p ≡ Accepted → i < nodes t → (cs : List ℕ) → next (grammarOf t p) i cs ≡ Item n k → Moves cs
+  unfolding next
+  item-moves a l [] e = let z : _≡_ {A = ℕ} 0 1 = cc in absurd (omega arith)
+  item-moves a l (c ∷ cs) e = by (front (grammarOf t p) i (c ∷ cs)) refl e
+    where
+      by : (f : Front) → front (grammarOf t p) i (c ∷ cs) ≡ f → handed (length (c ∷ cs)) f ≡ Item n k → Moves (c ∷ cs)
+      by (number m rest) u v =
+          let s : length (c ∷ cs) - length rest ≡ k = cc in
+          let (ws, q, one, same) = case-front t p a i l u in
+          let long = ap length same ∙ length-append ws rest in
+          (omega arith, omega (arith, case-some (grammarOf t p) i m ws one), omega arith)
+      by (refused r) u v = let z : _≡_ {A = ℕ} 0 1 = cc in absurd (omega arith)
+
+  module _ (row : List ℕ) (at : ℕ) where
+    started-moves : verdict t p ≡ Accepted → (b : Bool) → ltb i (nodes t) ≡ b → pick b (next (grammarOf t p) i (drop at row)) (Not-handed NoSuchStart 0) ≡ Item n k → Moves (drop at row)
+    started-moves a true u e = item-moves a (ltb-true i (nodes t) u) (drop at row) e
+    started-moves a false u e = let z : _≡_ {A = ℕ} 0 1 = cc in absurd (omega arith)
+
+    judged-moves : (v : Verdict) → verdict t p ≡ v → Readers.judged v (nextPlanned t p i row at) ≡ Item n k → Moves (drop at row)
+    unfolding nextPlanned
+    judged-moves Accepted u e = started-moves u (ltb i (nodes t)) refl e
+    judged-moves (Refuses r j) u e = let z : _≡_ {A = ℕ} 0 1 = cc in absurd (omega arith)
+
+    pub next-moves : nextOf t p i row at ≡ Item n k → (at < length row) × (0 < k) × (k ≤ length row - at)
+    unfolding nextOf
+    next-moves e =
+        let (x, y, z) = judged-moves (verdict t p) refl e in
+        (omega (arith, length-drop at row), y, omega (arith, length-drop at row))
