@@ -1,0 +1,116 @@
+-- What Ashetdune promises, in one place: the three demands for the public calls, that each promise allows one outcome, and the worked cases.
+-- `check` answers `verdict`; `write` promises `Wrote`, `read` answers `reads`; `write_row` and `read_row` promise `WroteRow` and `GotRow`; the reader answers `strideOf`.
+-- None of them has a `requires`. Every statement is in full, every proof one citation.
+-- Assumes nothing.
+use mathlib.Core.Path.{_≡_, refl}
+use mathlib.Core.List.{List, [], _∷_, _++_, map}
+use Prim.Native.Nat.{ℕ, suc, _+_, _≤_, _<_}
+use lib.ListN.{length, take}
+use Rattle.numbers.specs.Size.{Below}
+use Rattle.grammar.specs.Table.{nodes}
+use Rattle.grammar.specs.Sizes.{sizeAt, sizes}
+use Rattle.grammar.specs.Verdict.{verdict}
+use Rattle.grammar.specs.declared.refusal.Refusal.{Refusal}
+use Rattle.grammar.specs.declared.refusal.Refusal.the-variants.{NotACase}
+use Rattle.grammar.specs.declared.refusal.Verdict.the-variants.{Accepted}
+use Rattle.walk.specs.Grammar.{grammarOf}
+use Rattle.walk.specs.Walk.{cell, walk}
+use Rattle.walk.specs.Room.{Case}
+use Rattle.checked.specs.Fits.{Asked}
+use Rattle.cases.specs.Write.{Wrote}
+use Rattle.cases.specs.Read.{reads}
+use Rattle.cases.specs.declared.writing.Written.{Written}
+use Rattle.cases.specs.declared.writing.Written.the-variants.{Done, Refused}
+use Rattle.cases.specs.declared.reading.Found.the-variants.{Number, Refused as Not-found}
+use Rattle.cases.proofs.BothSides as Both-sides
+use Rattle.cases.proofs.Ends as Ends
+use Rattle.cases.proofs.Worked as Tables
+use Rattle.cases.proofs.WorkedCases as Cases
+use Rattle.rows.specs.WriteRow.{WroteRow}
+use Rattle.rows.specs.ReadRow.{GotRow}
+use Rattle.rows.specs.Reader.{strideOf}
+use Rattle.rows.specs.Cut.{Cut, joined, handOut, asks}
+use Rattle.rows.specs.declared.answer.Row.{Row}
+use Rattle.rows.specs.declared.answer.Row.the-variants.{Done as Row-done, Refused as Row-refused}
+use Rattle.rows.specs.declared.reader.Next.the-variants.{Item, End}
+use Rattle.rows.proofs.OneList as One-list
+use Rattle.rows.proofs.Unique as Unique
+use Rattle.rows.proofs.WorkedRows as Rows
+use Rattle.rows.proofs.Sides as Sides
+
+-- ---- Demand 1. "Every table, number and row of cells gets an answer .. a refusal changes no lent cell": one outcome for every input (`Unique` has the same of
+-- `check`, `read` and the reader, whose answers are equations), and a refusal's buffer is as it was.
+module _ {t p : List ℕ} {i : ℕ} where
+  one-writing : {n : ℕ} {old last last' : List ℕ} {r r' : Written} → Wrote t p i n old last r → Wrote t p i n old last' r' → (r ≡ r') × (last ≡ last')
+  one-writing h k = Unique.one-writing t p i h k
+
+  one-row-writing : {ns old last last' : List ℕ} {r r' : Row} → WroteRow t p i ns old last r → WroteRow t p i ns old last' r' → (r ≡ r') × (last ≡ last')
+  one-row-writing h k = Unique.one-row-writing t p i h k
+
+  one-row-reading : {cs old last last' : List ℕ} {r r' : Row} → GotRow t p i cs old last r → GotRow t p i cs old last' r' → (r ≡ r') × (last ≡ last')
+  one-row-reading h k = Unique.one-row-reading t p i h k
+
+  refused-write : {n : ℕ} {old last : List ℕ} {r : Refusal} {k : ℕ} → Wrote t p i n old last (Refused r k) → last ≡ old
+  refused-write h = h .holds
+
+  refused-row : {ns old last : List ℕ} {r : Refusal} {k item : ℕ} → WroteRow t p i ns old last (Row-refused r k item) → last ≡ old
+  refused-row h = h .holds
+
+  refused-row-read : {cs old last : List ℕ} {r : Refusal} {k item : ℕ} → GotRow t p i cs old last (Row-refused r k item) → last ≡ old
+  refused-row-read h = h .holds
+
+-- ---- For every accepted table and every start in it
+module _ (t p : List ℕ) (a : verdict t p ≡ Accepted) (i : ℕ) (l : i < nodes t) where
+  -- ---- Demand 2. "the case of a number and the number of a case .. each undoes the other, and nothing else is accepted"
+  case-written : {n : ℕ} {cs old last : List ℕ} {r : Written} → Asked (sizeAt (sizes t p) i) n → Case (grammarOf t p) i n cs → length cs ≤ length old → Wrote t p i n old last r
+      → (r ≡ Done (length cs)) × (take (length cs) last ≡ cs)
+  case-written q c f h = Sides.case-written t p a i l q c f h
+
+  written-then-read : {n k : ℕ} {old last : List ℕ} → Wrote t p i n old last (Done k) → reads t p i (take k last) ≡ Number n
+  written-then-read h = Sides.written-then-read t p a i l h
+
+  read-then-written : {n : ℕ} {cs old last : List ℕ} {r : Written} → reads t p i cs ≡ Number n → length cs ≤ length old → Wrote t p i n old last r
+      → (r ≡ Done (length cs)) × (take (length cs) last ≡ cs)
+  read-then-written e f h = Sides.read-then-written t p a i l e f h
+
+  only-cases : (n : ℕ) (cs : List ℕ) → reads t p i cs ≡ Number n → Asked (sizeAt (sizes t p) i) n × Case (grammarOf t p) i n cs
+  only-cases = Both-sides.only-cases t p a i l
+
+  one-case : (n : ℕ) (cs ds : List ℕ) → reads t p i cs ≡ Number n → reads t p i ds ≡ Number n → cs ≡ ds
+  one-case = Both-sides.one-case t p a i l
+
+  every-number : (n : ℕ) → Below n (sizeAt (sizes t p) i) → (d : ℕ) × (cs : List ℕ) × (walk (grammarOf t p) d i n ≡ map cell cs)
+  every-number = Ends.every-number t p a i l
+
+  -- ---- Demand 3. "read back as exactly that list; no other list writes the same row; no case is the beginning of a different case"
+  no-beginning : (m n : ℕ) (cs more : List ℕ) → reads t p i cs ≡ Number m → reads t p i (cs ++ more) ≡ Number n → (more ≡ []) × (m ≡ n)
+  no-beginning = Both-sides.no-beginning t p a i l
+
+  longer-refused : (n : ℕ) (cs : List ℕ) (c : ℕ) (more : List ℕ) → Asked (sizeAt (sizes t p) i) n → Case (grammarOf t p) i n cs → reads t p i (cs ++ (c ∷ more)) ≡ Not-found NotACase 0
+  longer-refused = Both-sides.longer-refused t p a i l
+
+  row-there-and-back : {ns : List ℕ} {css : List (List ℕ)} → Cut (grammarOf t p) i ns css → {old last old' last' : List ℕ} {w r : Row}
+      → length (joined css) ≤ length old → length ns ≤ length old' → WroteRow t p i ns old last w → GotRow t p i (take (length (joined css)) last) old' last' r
+      → (r ≡ Row-done (length ns) (length (joined css))) × (take (length ns) last' ≡ ns)
+  row-there-and-back cut f f' h k = One-list.row-there-and-back t p a i l cut f f' h k
+
+  one-list : {ns ms old last old' last' : List ℕ} {m c m' c' : ℕ} → WroteRow t p i ns old last (Row-done m c) → WroteRow t p i ms old' last' (Row-done m' c')
+      → take c last ≡ take c' last' → ns ≡ ms
+  one-list h k e = One-list.one-list t p a i l h k e
+
+  one-cut : {ns ms : List ℕ} {css dss : List (List ℕ)} → Cut (grammarOf t p) i ns css → Cut (grammarOf t p) i ms dss → joined css ≡ joined dss → (ns ≡ ms) × (css ≡ dss)
+  one-cut cut cut' e = One-list.one-cut t p a i l cut cut' e
+
+  reader-done : {row old last : List ℕ} {m c : ℕ} → GotRow t p i row old last (Row-done m c)
+      → (css : List (List ℕ)) × (joined css ≡ row) × (asks (strideOf t p i row) (suc m) 0 ≡ handOut 0 (take m last) css End)
+  reader-done h = One-list.reader-done t p a i l h
+
+-- ---- The worked cases, computed from the definitions
+tables : map Tables.asked Tables.tables ≡ map Tables.expected Tables.tables
+tables = Tables.checked
+
+cases : map Cases.asked Cases.cases ≡ map Cases.expected Cases.cases
+cases = Cases.worked
+
+rows : map Rows.asked Rows.rows ≡ map Rows.expected Rows.rows
+rows = Rows.worked

@@ -1,0 +1,35 @@
+-- Demand 2 said of the promise of `write` itself (`Wrote`: the answer and the buffer's last words).
+--   case-written, written-then-read, read-then-written   as in `Rattle.cases.proofs.BothSides`
+-- Assumes nothing.
+use mathlib.Core.Path.{_≡_, refl, sym, ap, _∙_}
+use mathlib.Core.List.{List}
+use Prim.Native.Nat.{ℕ, _≤_, _<_}
+use lib.ListN.{length, take}
+use Rattle.grammar.specs.Table.{nodes}
+use Rattle.grammar.specs.Sizes.{sizeAt, sizes}
+use Rattle.grammar.specs.Verdict.{verdict}
+use Rattle.grammar.specs.declared.refusal.Verdict.the-variants.{Accepted}
+use Rattle.walk.specs.Grammar.{grammarOf}
+use Rattle.walk.specs.Room.{Case}
+use Rattle.checked.specs.Fits.{Asked}
+use Rattle.cases.specs.Write.{Wrote}
+use Rattle.cases.specs.Read.{reads}
+use Rattle.cases.specs.declared.writing.Written.{Written}
+use Rattle.cases.specs.declared.writing.Written.the-variants.{Done}
+use Rattle.cases.specs.declared.reading.Found.the-variants.{Number}
+use Rattle.cases.proofs.Outcomes.{written-cells}
+use Rattle.cases.proofs.BothSides as Both-sides
+
+module _ (t p : List ℕ) (a : verdict t p ≡ Accepted) (i : ℕ) (l : i < nodes t) where
+  pub case-written : {n : ℕ} {cs old last : List ℕ} {r : Written} → Asked (sizeAt (sizes t p) i) n → Case (grammarOf t p) i n cs → length cs ≤ length old → Wrote t p i n old last r
+      → (r ≡ Done (length cs)) × (take (length cs) last ≡ cs)
+  case-written {n} {cs} {old} q c f h =
+      let (e, same) = Both-sides.case-written t p a i l n (length old) cs q c f in
+      (h .is ∙ e, written-cells h (length cs) (h .is ∙ e) ∙ same)
+
+  pub written-then-read : {n k : ℕ} {old last : List ℕ} → Wrote t p i n old last (Done k) → reads t p i (take k last) ≡ Number n
+  written-then-read {n} {k} {old} h = ap (reads t p i) (written-cells h k refl) ∙ Both-sides.written-then-read t p a i l n (length old) k (sym (h .is))
+
+  pub read-then-written : {n : ℕ} {cs old last : List ℕ} {r : Written} → reads t p i cs ≡ Number n → length cs ≤ length old → Wrote t p i n old last r
+      → (r ≡ Done (length cs)) × (take (length cs) last ≡ cs)
+  read-then-written {n} {cs} e f h = let (q, c) = Both-sides.only-cases t p a i l n cs e in case-written q c f h

@@ -1,0 +1,96 @@
+-- Worked rows of 01, "Cases on both sides" and the settled readings: one list, and one theorem over all of it, computed from the definitions.
+--   rows, worked   the list and the theorem
+-- Assumes nothing.
+use mathlib.Core.Path.{_≡_, refl}
+use mathlib.Core.List.{List, [], _∷_, map}
+use Prim.Native.Nat.{ℕ}
+use Rattle.numbers.specs.Size.{plus, times, less}
+use Rattle.numbers.specs.Root.{rootBy, root}
+use Rattle.numbers.specs.Or
+use Rattle.numbers.specs.Cons
+use Rattle.numbers.specs.Dep.{inTurn}
+use Rattle.numbers.specs.Dep
+use Rattle.numbers.specs.Except
+use Rattle.graph.specs.Ways.{has, via}
+use Rattle.graph.specs.Lowest.{lowest}
+use Rattle.grammar.specs.Refusals.{numberOf}
+use Rattle.grammar.specs.Node.{nodeOf, usesA, usesB}
+use Rattle.grammar.specs.Rows.{row, different, every, total, belowRow, natsRow, poolRow, shiftRow, orRow, consRow, secondsRow, further, depRow, exceptRow, fixRow, againRow, rowOf, rowAt}
+use Rattle.grammar.specs.Sizes.{onward, scan, sizes}
+use Rattle.grammar.specs.Steps.{steps}
+use Rattle.grammar.specs.Verdict.{leads, unguarded, exceptOnCycle, cycles, settled, verdict}
+use Rattle.walk.specs.Grammar.{grammarOf}
+use Rattle.walk.specs.Visit.{secondsOf, stepOf}
+use Rattle.walk.specs.Walk.{raised, shown, walk}
+use Rattle.walk.specs.Walk
+use Rattle.walk.specs.Room.{tallied}
+use Rattle.walk.specs.Reading.{cellOf, placeOf, ahead, become, follow, taken}
+use Rattle.checked.specs.Fits.{fitted}
+use Rattle.checked.specs.Item.{frontOf}
+use Rattle.cases.proofs.Worked.{L}
+use Rattle.rows.specs.Row.{RowAnswer, rowAnswer}
+use Rattle.rows.specs.WriteRow.{writesRowPlanned, writesRow}
+use Rattle.rows.specs.WriteRow as Written
+use Rattle.rows.specs.ReadRow.{gather, gotten, readsRowPlanned, readsRow}
+use Rattle.rows.specs.Reader.{next, nextPlanned, nextOf, NextAnswer, nextAnswer}
+
+-- a table, a start node, a room, and numbers with what their row is; a room and cells with what they read as; a row and a place with what the reader says
+pub data Worked : Type 0 where
+  writes-as : List ℕ → ℕ → ℕ → List ℕ → List ℕ → List ℕ → Worked
+  reads-as : List ℕ → ℕ → ℕ → List ℕ → List ℕ → List ℕ → Worked
+  hands-as : List ℕ → ℕ → List ℕ → ℕ → List ℕ → Worked
+
+-- refusal, node, item, items, cells; refusal, node, items, cells, number
+abbrev told : RowAnswer → List ℕ
+told r = r .refusal ∷ r .node ∷ r .item ∷ r .items ∷ r .cells ∷ []
+
+abbrev handed : NextAnswer → List ℕ
+handed x = x .refusal ∷ x .node ∷ x .items ∷ x .cells ∷ x .number ∷ []
+
+unfoldable pub asked : Worked → List (List ℕ)
+asked (writes-as t i room ns r cs) = told (rowAnswer (writesRow t [] i room ns)) ∷ Written.rowOf (grammarOf t []) i ns ∷ []
+asked (reads-as t i room cs r ns) = told (rowAnswer (readsRow t [] i room cs)) ∷ gotten (gather (grammarOf t []) i room cs) ∷ []
+asked (hands-as t i row at x) = handed (nextAnswer (nextOf t [] i row at)) ∷ []
+
+unfoldable pub expected : Worked → List (List ℕ)
+expected (writes-as t i room ns r cs) = r ∷ cs ∷ []
+expected (reads-as t i room cs r ns) = r ∷ ns ∷ []
+expected (hands-as t i row at x) = x ∷ []
+
+-- "L, row of 1, 0, 3: 1 0 0 0 0 0 1 1 0 0"
+abbrev pub L-row : List ℕ
+L-row = 1 ∷ 0 ∷ 0 ∷ 0 ∷ 0 ∷ 0 ∷ 1 ∷ 1 ∷ 0 ∷ 0 ∷ []
+
+-- below 2
+abbrev pub two : List ℕ
+two = 0 ∷ 2 ∷ 0 ∷ []
+
+abbrev pub rows : List Worked
+rows =
+    writes-as L 5 10 (1 ∷ 0 ∷ 3 ∷ []) (0 ∷ 0 ∷ 0 ∷ 3 ∷ 10 ∷ []) L-row
+    ∷ reads-as L 5 3 L-row (0 ∷ 0 ∷ 0 ∷ 3 ∷ 10 ∷ []) (1 ∷ 0 ∷ 3 ∷ [])
+    -- the row of no items; a table and a start that are refused
+    ∷ writes-as L 5 0 [] (0 ∷ 0 ∷ 0 ∷ 0 ∷ 0 ∷ []) []
+    ∷ reads-as L 5 0 [] (0 ∷ 0 ∷ 0 ∷ 0 ∷ 0 ∷ []) []
+    ∷ writes-as L 6 0 [] (11 ∷ 0 ∷ 0 ∷ 0 ∷ 0 ∷ []) []
+    ∷ reads-as (9 ∷ 1 ∷ 0 ∷ 8 ∷ 0 ∷ 0 ∷ []) 0 0 [] (9 ∷ 0 ∷ 0 ∷ 0 ∷ 0 ∷ []) []
+    -- one cell short; a number that is none at item 1; 14 at item 2
+    ∷ writes-as L 5 9 (1 ∷ 0 ∷ 3 ∷ []) (14 ∷ 0 ∷ 2 ∷ 0 ∷ 0 ∷ []) L-row
+    ∷ writes-as two 0 9 (1 ∷ 2 ∷ []) (12 ∷ 0 ∷ 1 ∷ 0 ∷ 0 ∷ []) (1 ∷ 2 ∷ [])
+    -- the walk comes before "the buffer of numbers is full", and so does 16
+    ∷ reads-as L 5 1 (0 ∷ 0 ∷ 2 ∷ []) (15 ∷ 0 ∷ 1 ∷ 0 ∷ 0 ∷ []) []
+    ∷ reads-as (1 ∷ 0 ∷ 0 ∷ []) 0 1 (7 ∷ 4611686018427387904 ∷ []) (16 ∷ 0 ∷ 1 ∷ 0 ∷ 0 ∷ []) []
+    ∷ reads-as L 5 2 L-row (14 ∷ 0 ∷ 2 ∷ 0 ∷ 0 ∷ []) []
+    -- the reader at each place of L's row, at its end and past it, and within a case
+    ∷ hands-as L 5 L-row 0 (0 ∷ 0 ∷ 1 ∷ 4 ∷ 1 ∷ [])
+    ∷ hands-as L 5 L-row 4 (0 ∷ 0 ∷ 1 ∷ 2 ∷ 0 ∷ [])
+    ∷ hands-as L 5 L-row 6 (0 ∷ 0 ∷ 1 ∷ 4 ∷ 3 ∷ [])
+    ∷ hands-as L 5 L-row 10 (0 ∷ 0 ∷ 0 ∷ 0 ∷ 0 ∷ [])
+    ∷ hands-as L 5 L-row 99 (0 ∷ 0 ∷ 0 ∷ 0 ∷ 0 ∷ [])
+    ∷ hands-as L 5 L-row 9 (15 ∷ 0 ∷ 0 ∷ 0 ∷ 0 ∷ [])
+    ∷ hands-as L 6 L-row 10 (11 ∷ 0 ∷ 0 ∷ 0 ∷ 0 ∷ [])
+    ∷ []
+
+pub worked : map asked rows ≡ map expected rows
+unfolding asked expected plus times less rootBy root Or.split Or.join Cons.split Cons.join inTurn Dep.split Dep.join Dep.total Except.split Except.join has via lowest numberOf nodeOf usesA usesB row different every total belowRow natsRow poolRow shiftRow orRow consRow secondsRow further depRow exceptRow fixRow againRow rowOf rowAt onward scan sizes steps leads unguarded exceptOnCycle cycles settled verdict secondsOf stepOf raised shown walk Walk.cells tallied fitted cellOf placeOf ahead become follow taken frontOf rowAnswer writesRowPlanned writesRow Written.inTurn Written.rowOf gather readsRowPlanned readsRow next nextPlanned nextOf nextAnswer
+worked = refl
