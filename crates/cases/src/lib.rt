@@ -2,6 +2,9 @@
 mod reading;
 mod writing;
 
+pub use grammar::refusal::Refusal;
+pub use grammar::refusal::Verdict;
+pub use grammar::refusal::number_of;
 pub use reading::Found;
 pub use reading::read;
 pub use writing::Written;
@@ -9,7 +12,6 @@ pub use writing::write;
 ghost use mathlib.Core.Path.{_≡_};
 ghost use Rattle.grammar.specs.Verdict.{verdict};
 use checked::prepared::prepare;
-use grammar::refusal::Verdict;
 
 // Whether a table is a grammar: accepted, or the refusal and its node.
 pub fn check(table: &[u64], pool: &[u64]) -> Verdict
