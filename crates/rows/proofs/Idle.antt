@@ -52,78 +52,52 @@ use Rattle.rows.specs.declared.reader.Stride.{Stride}
 abbrev blank : List ℕ
 blank = 7 ∷ 7 ∷ 7 ∷ 7 ∷ []
 
--- what the definitions give: L at 0 is 0 0, L at 1 is 1 0 0 0, and 1 0 0 0 is number 1
-writes-0 : writes L [] 5 0 4 ≡ Done 2
-unfolding plus times less rootBy root Or.split Or.join Cons.split Cons.join inTurn Dep.split Dep.join Dep.total Except.split Except.join has via lowest numberOf nodeOf usesA usesB row different every total belowRow natsRow poolRow shiftRow orRow consRow secondsRow further depRow exceptRow fixRow againRow rowOf rowAt onward scan sizes steps leads unguarded exceptOnCycle cycles settled verdict secondsOf stepOf raised shown walk Walk.cells tallied fitted cellOf placeOf ahead become follow taken frontOf writesRowPlanned writesRow Written.inTurn Written.rowOf gather readsRowPlanned readsRow walks writes
-writes-0 = refl
-
-leaves-0 : over (Walk.cells (walk (grammarOf L []) 200 5 0)) blank ≡ 0 ∷ 0 ∷ 7 ∷ 7 ∷ []
-unfolding plus times less rootBy root Or.split Or.join Cons.split Cons.join inTurn Dep.split Dep.join Dep.total Except.split Except.join has via lowest numberOf nodeOf usesA usesB row different every total belowRow natsRow poolRow shiftRow orRow consRow secondsRow further depRow exceptRow fixRow againRow rowOf rowAt onward scan sizes steps leads unguarded exceptOnCycle cycles settled verdict secondsOf stepOf raised shown walk Walk.cells tallied fitted cellOf placeOf ahead become follow taken frontOf writesRowPlanned writesRow Written.inTurn Written.rowOf gather readsRowPlanned readsRow over
-leaves-0 = refl
-
-leaves-1 : over (Walk.cells (walk (grammarOf L []) 200 5 1)) blank ≡ 1 ∷ 0 ∷ 0 ∷ 0 ∷ []
-unfolding plus times less rootBy root Or.split Or.join Cons.split Cons.join inTurn Dep.split Dep.join Dep.total Except.split Except.join has via lowest numberOf nodeOf usesA usesB row different every total belowRow natsRow poolRow shiftRow orRow consRow secondsRow further depRow exceptRow fixRow againRow rowOf rowAt onward scan sizes steps leads unguarded exceptOnCycle cycles settled verdict secondsOf stepOf raised shown walk Walk.cells tallied fitted cellOf placeOf ahead become follow taken frontOf writesRowPlanned writesRow Written.inTurn Written.rowOf gather readsRowPlanned readsRow over
-leaves-1 = refl
-
-writes-1 : writes L [] 5 1 4 ≡ Done 4
-unfolding plus times less rootBy root Or.split Or.join Cons.split Cons.join inTurn Dep.split Dep.join Dep.total Except.split Except.join has via lowest numberOf nodeOf usesA usesB row different every total belowRow natsRow poolRow shiftRow orRow consRow secondsRow further depRow exceptRow fixRow againRow rowOf rowAt onward scan sizes steps leads unguarded exceptOnCycle cycles settled verdict secondsOf stepOf raised shown walk Walk.cells tallied fitted cellOf placeOf ahead become follow taken frontOf writesRowPlanned writesRow Written.inTurn Written.rowOf gather readsRowPlanned readsRow walks writes
-writes-1 = refl
-
-reads-1 : reads L [] 5 (1 ∷ 0 ∷ 0 ∷ 0 ∷ []) ≡ Number 1
-unfolding plus times less rootBy root Or.split Or.join Cons.split Cons.join inTurn Dep.split Dep.join Dep.total Except.split Except.join has via lowest numberOf nodeOf usesA usesB row different every total belowRow natsRow poolRow shiftRow orRow consRow secondsRow further depRow exceptRow fixRow againRow rowOf rowAt onward scan sizes steps leads unguarded exceptOnCycle cycles settled verdict secondsOf stepOf raised shown walk Walk.cells tallied fitted cellOf placeOf ahead become follow taken frontOf writesRowPlanned writesRow Written.inTurn Written.rowOf gather readsRowPlanned readsRow found finds reads
-reads-1 = refl
-
-row-0-0 : writesRow L [] 5 4 (0 ∷ 0 ∷ []) ≡ Row-done 2 4
-unfolding plus times less rootBy root Or.split Or.join Cons.split Cons.join inTurn Dep.split Dep.join Dep.total Except.split Except.join has via lowest numberOf nodeOf usesA usesB row different every total belowRow natsRow poolRow shiftRow orRow consRow secondsRow further depRow exceptRow fixRow againRow rowOf rowAt onward scan sizes steps leads unguarded exceptOnCycle cycles settled verdict secondsOf stepOf raised shown walk Walk.cells tallied fitted cellOf placeOf ahead become follow taken frontOf writesRowPlanned writesRow Written.inTurn Written.rowOf gather readsRowPlanned readsRow
-row-0-0 = refl
-
-row-leaves : over (Written.rowOf (grammarOf L []) 5 (0 ∷ 0 ∷ [])) blank ≡ 0 ∷ 0 ∷ 0 ∷ 0 ∷ []
-unfolding plus times less rootBy root Or.split Or.join Cons.split Cons.join inTurn Dep.split Dep.join Dep.total Except.split Except.join has via lowest numberOf nodeOf usesA usesB row different every total belowRow natsRow poolRow shiftRow orRow consRow secondsRow further depRow exceptRow fixRow againRow rowOf rowAt onward scan sizes steps leads unguarded exceptOnCycle cycles settled verdict secondsOf stepOf raised shown walk Walk.cells tallied fitted cellOf placeOf ahead become follow taken frontOf writesRowPlanned writesRow Written.inTurn Written.rowOf gather readsRowPlanned readsRow over
-row-leaves = refl
-
-row-read : readsRow L [] 5 4 (0 ∷ 0 ∷ 0 ∷ 0 ∷ []) ≡ Row-done 2 4
-unfolding plus times less rootBy root Or.split Or.join Cons.split Cons.join inTurn Dep.split Dep.join Dep.total Except.split Except.join has via lowest numberOf nodeOf usesA usesB row different every total belowRow natsRow poolRow shiftRow orRow consRow secondsRow further depRow exceptRow fixRow againRow rowOf rowAt onward scan sizes steps leads unguarded exceptOnCycle cycles settled verdict secondsOf stepOf raised shown walk Walk.cells tallied fitted cellOf placeOf ahead become follow taken frontOf writesRowPlanned writesRow Written.inTurn Written.rowOf gather readsRowPlanned readsRow
-row-read = refl
-
-row-numbers : over (gotten (gather (grammarOf L []) 5 4 (0 ∷ 0 ∷ 0 ∷ 0 ∷ []))) blank ≡ 0 ∷ 0 ∷ 7 ∷ 7 ∷ []
-unfolding plus times less rootBy root Or.split Or.join Cons.split Cons.join inTurn Dep.split Dep.join Dep.total Except.split Except.join has via lowest numberOf nodeOf usesA usesB row different every total belowRow natsRow poolRow shiftRow orRow consRow secondsRow further depRow exceptRow fixRow againRow rowOf rowAt onward scan sizes steps leads unguarded exceptOnCycle cycles settled verdict secondsOf stepOf raised shown walk Walk.cells tallied fitted cellOf placeOf ahead become follow taken frontOf writesRowPlanned writesRow Written.inTurn Written.rowOf gather readsRowPlanned readsRow over
-row-numbers = refl
-
-handed-0 : nextOf L [] 5 (0 ∷ 0 ∷ []) 0 ≡ Item 0 2
-unfolding plus times less rootBy root Or.split Or.join Cons.split Cons.join inTurn Dep.split Dep.join Dep.total Except.split Except.join has via lowest numberOf nodeOf usesA usesB row different every total belowRow natsRow poolRow shiftRow orRow consRow secondsRow further depRow exceptRow fixRow againRow rowOf rowAt onward scan sizes steps leads unguarded exceptOnCycle cycles settled verdict secondsOf stepOf raised shown walk Walk.cells tallied fitted cellOf placeOf ahead become follow taken frontOf writesRowPlanned writesRow Written.inTurn Written.rowOf gather readsRowPlanned readsRow next nextPlanned nextOf
-handed-0 = refl
+-- what the definitions give: L at 0 is 0 0, L at 1 is 1 0 0 0, and 1 0 0 0 is number 1; the row of 0, 0 is 0 0 0 0
+computed :
+    (writes L [] 5 0 4 ≡ Done 2)
+    × (over (Walk.cells (walk (grammarOf L []) 200 5 0)) blank ≡ 0 ∷ 0 ∷ 7 ∷ 7 ∷ [])
+    × (over (Walk.cells (walk (grammarOf L []) 200 5 1)) blank ≡ 1 ∷ 0 ∷ 0 ∷ 0 ∷ [])
+    × (writes L [] 5 1 4 ≡ Done 4)
+    × (reads L [] 5 (1 ∷ 0 ∷ 0 ∷ 0 ∷ []) ≡ Number 1)
+    × (writesRow L [] 5 4 (0 ∷ 0 ∷ []) ≡ Row-done 2 4)
+    × (over (Written.rowOf (grammarOf L []) 5 (0 ∷ 0 ∷ [])) blank ≡ 0 ∷ 0 ∷ 0 ∷ 0 ∷ [])
+    × (readsRow L [] 5 4 (0 ∷ 0 ∷ 0 ∷ 0 ∷ []) ≡ Row-done 2 4)
+    × (over (gotten (gather (grammarOf L []) 5 4 (0 ∷ 0 ∷ 0 ∷ 0 ∷ []))) blank ≡ 0 ∷ 0 ∷ 7 ∷ 7 ∷ [])
+    × (nextOf L [] 5 (0 ∷ 0 ∷ []) 0 ≡ Item 0 2)
+unfolding plus times less rootBy root Or.split Or.join Cons.split Cons.join inTurn Dep.split Dep.join Dep.total Except.split Except.join has via lowest numberOf nodeOf usesA usesB row different every total belowRow natsRow poolRow shiftRow orRow consRow secondsRow further depRow exceptRow fixRow againRow rowOf rowAt onward scan sizes steps leads unguarded exceptOnCycle cycles settled verdict secondsOf stepOf raised shown walk Walk.cells tallied fitted cellOf placeOf ahead become follow taken frontOf writesRowPlanned writesRow Written.inTurn Written.rowOf gather readsRowPlanned readsRow walks writes over found finds reads next nextPlanned nextOf
+computed = (refl, refl, refl, refl, refl, refl, refl, refl, refl, refl)
 
 -- ---- one that refuses everything
 pub refuses-everything : {last : List ℕ} {r : Refusal} {k : ℕ} → Wrote L [] 5 0 blank last (Refused r k) → ⊥
-refuses-everything h = let e = h .is ∙ writes-0 in let z : _≡_ {A = ℕ} 0 1 = cc in omega arith
+refuses-everything h = let e = h .is ∙ computed .0 in let z : _≡_ {A = ℕ} 0 1 = cc in omega arith
 
 pub reader-refuses-everything : {r : Refusal} {k at : ℕ} → record { answer = Not-handed r k; at = at } ≡ strideOf L [] 5 (0 ∷ 0 ∷ []) 0 → ⊥
-reader-refuses-everything h = let e = ap (λ (x : Stride). x .answer) h ∙ handed-0 in let z : _≡_ {A = ℕ} 0 1 = cc in omega arith
+reader-refuses-everything h = let e = ap (λ (x : Stride). x .answer) h ∙ computed .9 in let z : _≡_ {A = ℕ} 0 1 = cc in omega arith
 
 -- ---- number 0, or the same cells, each time
 pub number-0-each-time : Number 0 ≡ reads L [] 5 (1 ∷ 0 ∷ 0 ∷ 0 ∷ []) → ⊥
-number-0-each-time h = let e : Number 0 ≡ Number 1 = h ∙ reads-1 in let z : _≡_ {A = ℕ} 0 1 = cc in omega arith
+number-0-each-time h = let e : Number 0 ≡ Number 1 = h ∙ computed .4 in let z : _≡_ {A = ℕ} 0 1 = cc in omega arith
 
 pub same-cells-each-time : {k : ℕ} → Wrote L [] 5 1 blank (0 ∷ 0 ∷ 7 ∷ 7 ∷ []) (Done k) → ⊥
-same-cells-each-time h = let e = h .holds ∙ leaves-1 in let z : _≡_ {A = ℕ} 0 1 = cc in omega arith
+same-cells-each-time h = let e = h .holds ∙ computed .2 in let z : _≡_ {A = ℕ} 0 1 = cc in omega arith
 
 -- ---- done, and nothing written
 pub done-and-nothing-written : {k : ℕ} → Wrote L [] 5 0 blank blank (Done k) → ⊥
-done-and-nothing-written h = let e = h .holds ∙ leaves-0 in let z : _≡_ {A = ℕ} 7 0 = cc in omega arith
+done-and-nothing-written h = let e = h .holds ∙ computed .1 in let z : _≡_ {A = ℕ} 7 0 = cc in omega arith
 
 pub row-done-and-nothing-written : {m c : ℕ} → WroteRow L [] 5 (0 ∷ 0 ∷ []) blank blank (Row-done m c) → ⊥
-row-done-and-nothing-written h = let e = h .holds ∙ row-leaves in let z : _≡_ {A = ℕ} 7 0 = cc in omega arith
+row-done-and-nothing-written h = let e = h .holds ∙ computed .6 in let z : _≡_ {A = ℕ} 7 0 = cc in omega arith
 
 -- ---- item 0, and then pretending
 pub item-0-and-pretends : {m c : ℕ} → WroteRow L [] 5 (0 ∷ 0 ∷ []) blank (0 ∷ 0 ∷ 7 ∷ 7 ∷ []) (Row-done m c) → ⊥
-item-0-and-pretends h = let e = h .holds ∙ row-leaves in let z : _≡_ {A = ℕ} 7 0 = cc in omega arith
+item-0-and-pretends h = let e = h .holds ∙ computed .6 in let z : _≡_ {A = ℕ} 7 0 = cc in omega arith
 
 pub item-0-read-and-pretends : {m c : ℕ} → GotRow L [] 5 (0 ∷ 0 ∷ 0 ∷ 0 ∷ []) blank (0 ∷ 7 ∷ 7 ∷ 7 ∷ []) (Row-done m c) → ⊥
-item-0-read-and-pretends h = let e = h .holds ∙ row-numbers in let z : _≡_ {A = ℕ} 7 0 = cc in omega arith
+item-0-read-and-pretends h = let e = h .holds ∙ computed .8 in let z : _≡_ {A = ℕ} 7 0 = cc in omega arith
 
 -- ---- a made-up count
 pub made-up-count : {last : List ℕ} → Wrote L [] 5 1 blank last (Done 3) → ⊥
-made-up-count h = let e : Done 3 ≡ Done 4 = h .is ∙ writes-1 in let z : _≡_ {A = ℕ} 3 4 = cc in omega arith
+made-up-count h = let e : Done 3 ≡ Done 4 = h .is ∙ computed .3 in let z : _≡_ {A = ℕ} 3 4 = cc in omega arith
 
 pub row-made-up-count : {last : List ℕ} → WroteRow L [] 5 (0 ∷ 0 ∷ []) blank last (Row-done 2 3) → ⊥
-row-made-up-count h = let e : Row-done 2 3 ≡ Row-done 2 4 = h .is ∙ row-0-0 in let z : _≡_ {A = ℕ} 3 4 = cc in omega arith
+row-made-up-count h = let e : Row-done 2 3 ≡ Row-done 2 4 = h .is ∙ computed .5 in let z : _≡_ {A = ℕ} 3 4 = cc in omega arith
