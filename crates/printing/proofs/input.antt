@@ -1,0 +1,4 @@
+-- How an input is read.
+pub mod Numbers
+mod Lines
+mod Whole

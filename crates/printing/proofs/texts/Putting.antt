@@ -1,0 +1,76 @@
+-- What the functions that put texts have put.
+--   digits-front     the digits of a number, at the front of an array of 20
+--   digits-none      which has room for them
+--   Lining, line-start, line-more, line-end    a line of numbers, one by one
+-- Assumes nothing.
+use mathlib.Core.Path.{_≡_, refl, sym, ap, subst, _∙_}
+use mathlib.Core.List.{List, [], _∷_, _++_, append-assoc}
+use Prim.Native.Nat.{ℕ, suc, _+_, _-_, _^_, _≤_, _<_}
+use native.Mathlib.Numerals.{add-one}
+use native.Mathlib.Omega.{arith}
+use lib.ListN.{length, getD, take, drop, drop-of-length-le}
+use lib.Seq.{drop-cons, take-append-seam}
+use Rattle.walk.specs.Filled.{over, Filled}
+use Rattle.walk.proofs.Fills.{nothing, then}
+use Rattle.lines.specs.Decimal.{decimal}
+use Rattle.lines.specs.Line.{lineText}
+use Rattle.lines.specs.Put.{PutFront}
+use Rattle.lines.specs.declared.put.Put.{Put}
+use Rattle.lines.specs.declared.put.Put.the-variants.{Bytes, NoRoom}
+use Rattle.lines.proofs.put.Outcomes.{put-bytes-known, put-none-known}
+use Rattle.printing.proofs.texts.Sizes.{decimal-size}
+
+-- ---- the digits of a number
+module _ (n : ℕ) {old last : List ℕ} {r : Put} (k : PutFront (decimal n) old last r) where
+  pub digits-front : {size : ℕ} → r ≡ Bytes size → take size last ≡ decimal n
+  digits-front {size} e =
+      let (s, room, holds) = put-bytes-known k e in
+      rw (s, holds) (rw s (take-append-seam (decimal n) (drop (length (decimal n)) old)))
+
+  pub digits-fit : {size : ℕ} → r ≡ Bytes size → size ≤ length old
+  digits-fit e = put-bytes-known k e .1
+
+  pub digits-none : r ≡ NoRoom → n < 2 ^ 64 → 20 ≤ length old → ⊥
+  digits-none e h l = omega (arith, put-none-known k e .0, decimal-size n h)
+
+-- ---- a line of numbers: what is put and the text of the rest are the whole
+pub record Lining (ns old now : List ℕ) (used i : ℕ) : Type 0 where
+  pub text : List ℕ
+  pub is : lineText ns ≡ text ++ lineText (drop i ns)
+  pub fills : Filled text old now used
+  pub few : i < length ns
+
+pub line-none : (ns : List ℕ) → length ns ≡ 0 → {old last : List ℕ} {r : ℕ} → Filled (10 ∷ []) old last r → Filled (lineText ns) old last r
+unfolding lineText
+line-none [] e f = f
+line-none (n ∷ ns) e f = absurd (omega arith)
+
+pub line-start : {ns old : List ℕ} → (length ns ≡ 0 → ⊥) → Lining ns old old 0 0
+line-start {ns} {old} h = record { text = []; is = refl; fills = nothing old; few = omega arith }
+
+line-one : (ns : List ℕ) (i : ℕ) → i + 1 ≡ length ns → lineText (drop i ns) ≡ decimal (getD ns i 0) ++ (10 ∷ [])
+unfolding lineText
+line-one ns i e = rw (drop-cons ns i 0 (omega arith), drop-of-length-le ns {i = suc i} (omega arith))
+
+line-next : (ns : List ℕ) (i : ℕ) → i + 1 < length ns → lineText (drop i ns) ≡ (decimal (getD ns i 0) ++ (32 ∷ [])) ++ lineText (drop (i + 1) ns)
+unfolding lineText
+line-next ns i l =
+    rw (add-one, drop-cons ns i 0 (omega arith), drop-cons ns (suc i) 0 (omega arith))
+    (sym (append-assoc (decimal (getD ns i 0)) (32 ∷ []) (lineText (getD ns (suc i) 0 ∷ drop (suc (suc i)) ns))))
+
+module _ {ns old now : List ℕ} {used i : ℕ} (s : Lining ns old now used i) {part last : List ℕ} {k : ℕ} (e : part ≡ take (length now - used) (drop used now)) where
+  pub line-more : i + 1 < length ns → Filled (decimal (getD ns i 0) ++ (32 ∷ [])) part last k
+      → Lining ns old (take used now ++ (last ++ drop (length now - used) (drop used now))) (used + k) (i + 1)
+  line-more l f =
+      record {
+        text = s .text ++ (decimal (getD ns i 0) ++ (32 ∷ []));
+        is = s .is ∙ rw (line-next ns i l) (sym (append-assoc (s .text) (decimal (getD ns i 0) ++ (32 ∷ [])) (lineText (drop (i + 1) ns))));
+        fills = then (s .fills) f e;
+        few = l;
+      }
+
+  pub line-end : i + 1 ≡ length ns → Filled (decimal (getD ns (length ns - 1) 0) ++ (10 ∷ [])) part last k
+      → Filled (lineText ns) old (take used now ++ (last ++ drop (length now - used) (drop used now))) (used + k)
+  line-end l f =
+      let at-last : length ns - 1 ≡ i = omega arith in
+      rw (s .is, line-one ns i l) (then (s .fills) (rw at-last at f) e)

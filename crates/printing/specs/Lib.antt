@@ -1,0 +1,4 @@
+-- What the printing program reads and prints.
+pub mod Texts
+pub mod Input
+pub mod Printed

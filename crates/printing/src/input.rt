@@ -1,0 +1,95 @@
+// What an input asks for. All of it is read before anything is answered.
+ghost use mathlib.Core.Path.{_≡_};
+ghost use Rattle.printing.specs.Input.{oneAt, numbersFrom, readable, ReadTable, ReadInput};
+use lines::line::Line;
+use lines::line::numbers_at;
+
+// "at most 65,536 bytes"; "Table and pool lines hold at most 768 and 4,096 numbers"
+pub const MOST_BYTES: usize = 65536;
+
+pub const TABLE_WORDS: usize = 768;
+
+pub const POOL_WORDS: usize = 4096;
+
+// How many words the table and the pool have, the start node, and the place of the first number's line.
+pub enum Asked {
+    Cases(usize, usize, u64, usize),
+    Unreadable,
+}
+
+// The number that is alone on a line, and the place after the line.
+pub enum One {
+    Number(u64, usize),
+    Not,
+}
+
+// "one number a line"
+pub fn one_at(text: &[u8], at: usize) -> One
+    ensures { λ r. ⌜ r ≡ oneAt (now (text .entry)) at ⌝ }
+{
+    let mut word = [0u64; 1];
+    match numbers_at(text, at, &mut word) {
+        Line::Numbers(count, next) => {
+            if count == 0 {
+                return One::Not;
+            }
+            One::Number(word[0], next)
+        }
+        Line::Unreadable => One::Not,
+    }
+}
+
+// Whether each line from a place on is a number, and the last one ends the text.
+fn one_each(text: &[u8], from: usize) -> bool
+    ensures { λ r. ⌜ r ≡ readable (numbersFrom (now (text .entry)) from) ⌝ }
+{
+    let mut at = from;
+    while at < text.len() {
+        match one_at(text, at) {
+            One::Number(_, next) => at = next,
+            One::Not => return false,
+        }
+    }
+    true
+}
+
+// The first line: the table's words, of which there is one at least.
+fn read_table(text: &[u8], table: &mut [u64; TABLE_WORDS]) -> Line
+    ensures { λ r. ⌜ ReadTable (now (text .entry)) (now (table .entry)) (now (table .exit)) r ⌝ }
+{
+    if MOST_BYTES < text.len() {
+        return Line::Unreadable;
+    }
+    match numbers_at(text, 0, table) {
+        Line::Numbers(count, next) => {
+            if count == 0 {
+                return Line::Unreadable;
+            }
+            Line::Numbers(count, next)
+        }
+        Line::Unreadable => Line::Unreadable,
+    }
+}
+
+// "table words, pool words (this line alone may be empty), start node, then one number a line"
+pub fn read_input(
+    text: &[u8],
+    table: &mut [u64; TABLE_WORDS],
+    pool: &mut [u64; POOL_WORDS],
+) -> Asked
+    ensures { λ r. ⌜ ReadInput (now (text .entry)) (now (table .entry)) (now (table .exit)) (now (pool .entry)) (now (pool .exit)) r ⌝ }
+{
+    let Line::Numbers(table_count, pool_at) = read_table(text, table) else {
+        return Asked::Unreadable;
+    };
+    let Line::Numbers(pool_count, start_at) = numbers_at(text, pool_at, pool) else {
+        return Asked::Unreadable;
+    };
+    let One::Number(start, from) = one_at(text, start_at) else {
+        return Asked::Unreadable;
+    };
+    if one_each(text, from) {
+        return Asked::Cases(table_count, pool_count, start, from);
+    }
+    Asked::Unreadable
+}
