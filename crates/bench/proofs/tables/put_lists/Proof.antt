@@ -1,0 +1,26 @@
+-- `bench::tables::put_lists` goes list by list.
+-- Assumes nothing.
+use borrow.Author.Needs.{needs}
+use Prim.Native.Nat.{_-_, _≤_}
+use Rattle.bench.proofs.tables.put_lists.Statement.{statement}
+use Rattle.bench.proofs.tables.put_lists.Tie as tie
+
+abbrev Inv-loop : tie.InvT-loop
+Inv-loop table₀ levels i₀ table i = i ≤ levels
+
+abbrev μ-loop : tie.MeasureT-loop
+μ-loop table₀ levels i₀ table i = levels - i
+
+pub put-lists-spec : {M : Type 1} → statement M
+put-lists-spec =
+    tie.close
+    (tie.spec
+    Inv-loop
+    μ-loop
+    (λ c κs. search needs)
+    (λ c. search needs)
+    (λ c κs. search needs)
+    (λ c. search needs)
+    (λ c. search needs)
+    (λ c. search needs)
+    (λ c. search needs))
