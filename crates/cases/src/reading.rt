@@ -4,10 +4,11 @@ ghost use Prim.Native.Nat.{ℕ, _^_, _≤_};
 ghost use Rattle.walk.specs.Reading.{Read};
 ghost use Rattle.walk.specs.Room.{most};
 ghost use Rattle.walk.specs.Got.{Took};
-ghost use Rattle.checked.specs.Prepared.{Planning};
+ghost use Rattle.checked.specs.Prepared.{Blank, Planning};
 ghost use Rattle.cases.specs.Read.{found, finds, reads};
 use checked::fits::DEPTH;
 use checked::fits::MOST_CELLS;
+use checked::prepared::SMALL;
 use checked::prepared::prepare;
 use grammar::refusal::Refusal;
 use grammar::refusal::Verdict;
@@ -46,13 +47,7 @@ fn whole(cells: &[u64], g: Got) -> Found
 }
 
 // The call on an accepted table: 11, then the walk.
-fn read_planned(
-    table: &[u64],
-    pool: &[u64],
-    plan: &[u64; 1024],
-    start: usize,
-    cells: &[u64],
-) -> Found
+fn read_planned(table: &[u64], pool: &[u64], plan: &[u64], start: usize, cells: &[u64]) -> Found
     requires { ⌜ Planning (now table) (now pool) (now plan) ⌝ }
     ensures { λ r. ⌜ r ≡ finds (now (table .entry)) (now (pool .entry)) start (now (cells .entry)) ⌝ }
 {
@@ -65,14 +60,26 @@ fn read_planned(
     )
 }
 
+// The call over a lent plan: the check comes first.
+fn read_with(plan: &mut [u64], table: &[u64], pool: &[u64], start: usize, cells: &[u64]) -> Found
+    requires { ⌜ Blank (now table) (now plan) ⌝ }
+    ensures { λ r. ⌜ r ≡ reads (now (table .entry)) (now (pool .entry)) start (now (cells .entry)) ⌝ }
+{
+    let v = prepare(table, pool, plan);
+    match v {
+        Verdict::Refused(r, k) => Found::Refused(r, k),
+        Verdict::Accepted => read_planned(table, pool, plan, start, cells),
+    }
+}
+
 // The number of a case, from all its cells.
 pub fn read(table: &[u64], pool: &[u64], start: usize, cells: &[u64]) -> Found
     ensures { λ r. ⌜ r ≡ reads (now (table .entry)) (now (pool .entry)) start (now (cells .entry)) ⌝ }
 {
-    let mut plan = [0u64; 1024];
-    let v = prepare(table, pool, &mut plan);
-    match v {
-        Verdict::Refused(r, k) => Found::Refused(r, k),
-        Verdict::Accepted => read_planned(table, pool, &plan, start, cells),
+    if table.len() <= SMALL {
+        let mut plan = [0u64; 64];
+        return read_with(&mut plan, table, pool, start, cells);
     }
+    let mut plan = [0u64; 1024];
+    read_with(&mut plan, table, pool, start, cells)
 }

@@ -1,9 +1,10 @@
 // From a number to cells.
-ghost use Rattle.checked.specs.Prepared.{Planning};
+ghost use Rattle.checked.specs.Prepared.{Blank, Planning};
 ghost use Rattle.cases.specs.Write.{Wrote, WrotePlanned};
 use checked::fits::DEPTH;
 use checked::fits::Fit;
 use checked::fits::fits;
+use checked::prepared::SMALL;
 use checked::prepared::prepare;
 use grammar::refusal::Refusal;
 use grammar::refusal::Verdict;
@@ -19,7 +20,7 @@ pub enum Written {
 fn write_planned(
     table: &[u64],
     pool: &[u64],
-    plan: &[u64; 1024],
+    plan: &[u64],
     start: usize,
     number: u64,
     cells: &mut [u64],
@@ -36,14 +37,33 @@ fn write_planned(
     }
 }
 
+// The call over a lent plan: the check comes first.
+fn write_with(
+    plan: &mut [u64],
+    table: &[u64],
+    pool: &[u64],
+    start: usize,
+    number: u64,
+    cells: &mut [u64],
+) -> Written
+    requires { ⌜ Blank (now table) (now plan) ⌝ }
+    ensures { λ r. ⌜ Wrote (now (table .entry)) (now (pool .entry)) start number (now (cells .entry)) (now (cells .exit)) r ⌝ }
+{
+    let v = prepare(table, pool, plan);
+    match v {
+        Verdict::Refused(r, k) => Written::Refused(r, k),
+        Verdict::Accepted => write_planned(table, pool, plan, start, number, cells),
+    }
+}
+
 // The case of a number, written into a lent buffer.
 pub fn write(table: &[u64], pool: &[u64], start: usize, number: u64, cells: &mut [u64]) -> Written
     ensures { λ r. ⌜ Wrote (now (table .entry)) (now (pool .entry)) start number (now (cells .entry)) (now (cells .exit)) r ⌝ }
 {
-    let mut plan = [0u64; 1024];
-    let v = prepare(table, pool, &mut plan);
-    match v {
-        Verdict::Refused(r, k) => Written::Refused(r, k),
-        Verdict::Accepted => write_planned(table, pool, &plan, start, number, cells),
+    if table.len() <= SMALL {
+        let mut plan = [0u64; 64];
+        return write_with(&mut plan, table, pool, start, number, cells);
     }
+    let mut plan = [0u64; 1024];
+    write_with(&mut plan, table, pool, start, number, cells)
 }

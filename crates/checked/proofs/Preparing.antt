@@ -57,7 +57,7 @@ module _ (t p : List ℕ) {plan : List ℕ} (whole : length t ≡ 3 * nodes t) (
     same = fun-ext (plan-sizes plans)
 
     pub prepared-ready : Ready t p plan
-    prepared-ready = record { checked = rw same checked }
+    prepared-ready = record { checked = rw same checked; long = plans .long }
 
     pub prepared-cycles : {w : Verdict} → w ≡ cycles t p (sizeIn plan) → Prepared t p plan w
     unfolding verdict settled

@@ -143,7 +143,7 @@ module _ (t p : List ℕ) (pass : scan t p (nodes t) ≡ passed (sizes t p)) (c 
   good-of = record { fits = λ n l. fits-of n l (nodeAt t n) (c .sound n l) (scan-size t p pass n l); some = sizes-some }
 
 abbrev pub walkable : {t p plan : List ℕ} → Planning t p plan → Walkable plan p
-walkable {t} {p} {plan} h = record { count = nodes t; few = h .checked .few; good = rw (same-grammar h) (good-of t p (h .passes) (h .checked)) }
+walkable {t} {p} {plan} h = record { count = nodes t; long = h .plans .long; good = rw (same-grammar h) (good-of t p (h .passes) (h .checked)) }
 
 -- a start that is in the table may be walked from
 abbrev pub stands-at : {t p plan : List ℕ} → Planning t p plan → {i : ℕ} → i < nodes t → Stands plan p i

@@ -1,6 +1,7 @@
 -- The check inside a call: its verdict, and the plan of an accepted table.
 --   Prepared   the verdict is the table's, and where it is accepted the plan holds its nodes and their sizes
 --   Stands     a node of a plan that may be walked
+--   Blank      an empty plan, with a row for each node of a table that is not too long
 -- Assumes nothing.
 use mathlib.Core.Path.{_≡_}
 use mathlib.Core.List.{List}
@@ -12,7 +13,12 @@ use Rattle.grammar.specs.Verdict.{verdict}
 use Rattle.grammar.specs.declared.refusal.Verdict.{Verdict}
 use Rattle.grammar.specs.declared.refusal.Verdict.the-variants.{Accepted}
 use Rattle.walk.specs.Good.{Walkable}
-use Prim.Native.Nat.{ℕ, _<_}
+use lib.ListN.{length, replicate}
+use Prim.Native.Nat.{ℕ, _*_, _≤_, _<_}
+
+pub record Blank (t plan : List ℕ) : Type 0 where
+  pub clear : plan ≡ replicate (length plan) 0
+  pub long : nodes t ≤ 256 → 4 * nodes t ≤ length plan
 
 pub record Planning (t p plan : List ℕ) : Type 0 where
   pub passes : scan t p (nodes t) ≡ passed (sizes t p)

@@ -27,7 +27,7 @@ fn room_for(room: usize) -> usize
 }
 
 // Decides without writing.
-pub fn fits(plan: &[u64; 1024], pool: &[u64], start: usize, number: u64, room: usize) -> Fit
+pub fn fits(plan: &[u64], pool: &[u64], start: usize, number: u64, room: usize) -> Fit
     requires { ⌜ Stands (now plan) (now pool) start ⌝ }
     ensures { λ r. ⌜ r ≡ fitted (planned (now (plan .entry)) (now (pool .entry))) start number room ⌝ }
 {

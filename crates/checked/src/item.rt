@@ -18,7 +18,7 @@ pub enum Item {
 }
 
 // The case that starts at a place: "The limit of 65,536 counts from the item's first cell".
-pub fn item_at(plan: &[u64; 1024], pool: &[u64], start: usize, cells: &[u64], at: usize) -> Item
+pub fn item_at(plan: &[u64], pool: &[u64], start: usize, cells: &[u64], at: usize) -> Item
     requires { ⌜ Stands (now plan) (now pool) start × (at ≤ length (now cells)) ⌝ }
     ensures { λ r. ⌜ Stood (front (planned (now (plan .entry)) (now (pool .entry))) start (drop at (now (cells .entry)))) (now (cells .entry)) at r ⌝ }
 {

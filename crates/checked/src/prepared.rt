@@ -1,7 +1,5 @@
 // The check of a table, which leaves the plan that the walks use.
-ghost use mathlib.Core.Path.{_≡_};
-ghost use lib.ListN.{replicate};
-ghost use Rattle.checked.specs.Prepared.{Prepared};
+ghost use Rattle.checked.specs.Prepared.{Blank, Prepared};
 use grammar::plan::weigh_all;
 use grammar::refusal::Refusal;
 use grammar::refusal::Verdict;
@@ -10,9 +8,13 @@ const MOST_NODES: usize = 256;
 
 const MOST_WORDS: usize = 4096;
 
+// The words of a table of 16 nodes: up to here a call takes a plan of 16 rows, else one of 256. A small
+// table does not pay for the largest.
+pub const SMALL: usize = 48;
+
 // "The whole check: word and pool lengths (1, node 0); then nodes rising ..; then cycles."
-pub fn prepare(table: &[u64], pool: &[u64], plan: &mut [u64; 1024]) -> Verdict
-    requires { ⌜ now plan ≡ replicate 1024 0 ⌝ }
+pub fn prepare(table: &[u64], pool: &[u64], plan: &mut [u64]) -> Verdict
+    requires { ⌜ Blank (now table) (now plan) ⌝ }
     ensures { λ r. ⌜ Prepared (now (table .entry)) (now (pool .entry)) (now (plan .exit)) r ⌝ }
 {
     let count = table.len() / 3;

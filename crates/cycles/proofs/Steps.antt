@@ -118,6 +118,10 @@ module _ {t p plan : List ℕ} (r : Ready t p plan) {n : ℕ} (h : n < nodes t) 
 
   -- a dep's first part has as many numbers as its word in the plan
   module _ (e : kindOf t n ≡ 6) where
+    pub dep-row : 4 * aOf t n + 3 < length plan
+    unfolding nodeOf
+    dep-row = omega (arith, at 6 e .0, h, r .long)
+
     count-is : count (sizeIn plan (aOf t n)) ≡ getD plan (4 * aOf t n + 3) 0
     unfolding nodeOf
     count-is =

@@ -39,7 +39,7 @@ fn mark_run(pool: &[u64], at: usize, count: usize, seen: &mut [u8; 256])
 fn mark_steps(
     table: &[u64],
     pool: &[u64],
-    plan: &[u64; 1024],
+    plan: &[u64],
     n: usize,
     guarded: bool,
     seen: &mut [u8; 256],
@@ -73,7 +73,7 @@ fn mark_steps(
 
 // Whether node n leads back to itself. Each node is opened once: the nodes from `top` on that are
 // marked have been.
-fn comes_back(table: &[u64], pool: &[u64], plan: &[u64; 1024], n: usize, guarded: bool) -> bool
+fn comes_back(table: &[u64], pool: &[u64], plan: &[u64], n: usize, guarded: bool) -> bool
     requires { ⌜ Ready (now table) (now pool) (now plan) ⌝ }
     requires { ⌜ n < nodes (now table) ⌝ }
     ensures { λ r. ⌜ Decides (Leads guarded (now (table .entry)) (now (pool .entry)) (sizeIn (now (plan .entry))) n n) r ⌝ }
@@ -101,7 +101,7 @@ fn comes_back(table: &[u64], pool: &[u64], plan: &[u64; 1024], n: usize, guarded
 }
 
 // The lowest node of a kind that is on a cycle, or none.
-fn lowest_of_kind(table: &[u64], pool: &[u64], plan: &[u64; 1024], kind: u64, guarded: bool) -> u64
+fn lowest_of_kind(table: &[u64], pool: &[u64], plan: &[u64], kind: u64, guarded: bool) -> u64
     requires { ⌜ Ready (now table) (now pool) (now plan) ⌝ }
     ensures { λ r. ⌜ Lowest (KindOnCycle guarded (now (table .entry)) (now (pool .entry)) (sizeIn (now (plan .entry))) kind) r ⌝ }
 {
@@ -131,7 +131,7 @@ fn has_again(table: &[u64]) -> bool
 }
 
 // Refusal 9: the lowest node on a cycle that never steps to the second part of an or.
-fn unguarded(table: &[u64], pool: &[u64], plan: &[u64; 1024]) -> u64
+fn unguarded(table: &[u64], pool: &[u64], plan: &[u64]) -> u64
     requires { ⌜ Ready (now table) (now pool) (now plan) ⌝ }
     ensures { λ r. ⌜ Lowest (Unguarded (now (table .entry)) (now (pool .entry)) (sizeIn (now (plan .entry)))) r ⌝ }
 {
@@ -139,7 +139,7 @@ fn unguarded(table: &[u64], pool: &[u64], plan: &[u64; 1024]) -> u64
 }
 
 // Refusal 10: the lowest except on any cycle.
-fn except_on_cycle(table: &[u64], pool: &[u64], plan: &[u64; 1024]) -> u64
+fn except_on_cycle(table: &[u64], pool: &[u64], plan: &[u64]) -> u64
     requires { ⌜ Ready (now table) (now pool) (now plan) ⌝ }
     ensures { λ r. ⌜ Lowest (ExceptOnCycle (now (table .entry)) (now (pool .entry)) (sizeIn (now (plan .entry)))) r ⌝ }
 {
@@ -147,7 +147,7 @@ fn except_on_cycle(table: &[u64], pool: &[u64], plan: &[u64; 1024]) -> u64
 }
 
 // "then cycles": any 9 comes before any 10. A table with no again is not searched.
-pub fn judge(table: &[u64], pool: &[u64], plan: &[u64; 1024]) -> Verdict
+pub fn judge(table: &[u64], pool: &[u64], plan: &[u64]) -> Verdict
     requires { ⌜ Ready (now table) (now pool) (now plan) ⌝ }
     ensures { λ r. ⌜ r ≡ cycles (now (table .entry)) (now (pool .entry)) (sizeIn (now (plan .entry))) ⌝ }
 {

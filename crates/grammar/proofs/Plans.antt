@@ -6,7 +6,7 @@ use mathlib.Core.Path.{_≡_, refl, sym, ap, _∙_}
 use mathlib.Core.Bool.{Bool, true, false}
 use mathlib.Core.Logic.{_⊎_, ⊎-elim}
 use mathlib.Core.List.{List, [], _∷_, _++_}
-use Prim.Native.Nat.{ℕ, zero, suc, _+_, _*_, _^_, _<_}
+use Prim.Native.Nat.{ℕ, zero, suc, _+_, _*_, _^_, _≤_, _<_}
 use native.Mathlib.Nat.{not-suc-le-zero}
 use native.Mathlib.Omega.{arith}
 use lib.Dec.{eqb, eqb·suc-zero, eqb·zero-suc, eqb·suc-suc}
@@ -17,13 +17,12 @@ use Rattle.numbers.specs.Pick.{pick}
 use Rattle.numbers.specs.Size.{Size, finite, endless, codeOf, sizeOf}
 use Rattle.numbers.proofs.size.Laws.{sized-finite, sized-endless}
 use Rattle.graph.proofs.Marks.{same?, blank}
-use Rattle.grammar.specs.Table.{kindOf, aOf, bOf}
+use Rattle.grammar.specs.Table.{kindOf, aOf, bOf, nodes}
 use Rattle.grammar.specs.Sizes.{sizeAt}
 use Rattle.grammar.specs.Plan.{sizeIn, rowed, Small, Planned}
 
 -- ---- the sizes with one more
 appended : (zs : List Size) (s : Size) (k : ℕ) → sizeAt (zs ++ (s ∷ [])) k ≡ pick (eqb k (length zs)) s (sizeAt zs k)
-unfolding length
 appended [] s zero = refl
 appended [] s (suc k) = rw (eqb·suc-zero k)
 appended (y ∷ zs) s zero = rw (eqb·zero-suc (length zs))
@@ -71,19 +70,22 @@ module _ (plan : List ℕ) (n kind a b w : ℕ) where
   row-long : length (rowed plan n kind a b w) ≡ length plan
   row-long = simp length-set
 
-pub plan-none : (t plan : List ℕ) → plan ≡ replicate 1024 0 → Planned t [] 0 plan
-plan-none t plan e = rw e (record {
-  long = refl;
+cleared : (plan : List ℕ) (m : ℕ) → plan ≡ replicate m 0 → (i : ℕ) → getD plan i 0 ≡ 0
+cleared plan m e i = rw e (blank m i)
+
+pub plan-none : (t plan : List ℕ) → plan ≡ replicate (length plan) 0 → 4 * nodes t ≤ length plan → Planned t [] 0 plan
+plan-none t plan e l = record {
+  long = l;
   many = refl;
   kind = λ k l. absurd (not-suc-le-zero l);
   a = λ k l. absurd (not-suc-le-zero l);
   b = λ k l. absurd (not-suc-le-zero l);
-  blank = λ k l. (blank 1024 (4 * k), blank 1024 (4 * k + 1), blank 1024 (4 * k + 2));
-  size = λ k. blank 1024 (4 * k + 3);
+  blank = λ k l. (cleared plan (length plan) e (4 * k), cleared plan (length plan) e (4 * k + 1), cleared plan (length plan) e (4 * k + 2));
+  size = λ k. cleared plan (length plan) e (4 * k + 3);
   small = λ k. omega arith;
-})
+}
 
-module _ {t : List ℕ} {zs : List Size} {n : ℕ} {plan : List ℕ} (h : Planned t zs n plan) (l : n < 256) (s : Size) (m : Small s) {w : ℕ} (e : w ≡ codeOf s) where
+module _ {t : List ℕ} {zs : List Size} {n : ℕ} {plan : List ℕ} (h : Planned t zs n plan) (l : n < nodes t) (s : Size) (m : Small s) {w : ℕ} (e : w ≡ codeOf s) where
   next : List ℕ
   next = rowed plan n (kindOf t n) (aOf t n) (bOf t n) w
 
@@ -111,7 +113,7 @@ module _ {t : List ℕ} {zs : List Size} {n : ℕ} {plan : List ℕ} (h : Planne
   pub plan-more : Planned t (zs ++ (s ∷ [])) (n + 1) (rowed plan n (kindOf t n) (aOf t n) (bOf t n) w)
   unfolding next
   plan-more = record {
-    long = row-long plan n (kindOf t n) (aOf t n) (bOf t n) w ∙ h .long;
+    long = omega (arith, row-long plan n (kindOf t n) (aOf t n) (bOf t n) w, h .long);
     many = rw length-append (ap (λ (x : ℕ). x + 1) (h .many));
     kind = λ k q. ⊎-elim (λ same. rw same (row-kind plan n (kindOf t n) (aOf t n) (bOf t n) w inside))
         (λ other. row-other plan n (kindOf t n) (aOf t n) (bOf t n) w (4 * k) (λ x. other (omega arith)) (λ x. omega arith) (λ x. omega arith) (λ x. omega arith) ∙ h .kind k (omega arith)) (same? k n);

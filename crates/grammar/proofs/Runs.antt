@@ -75,7 +75,7 @@ module _ (n : ℕ) (p : List ℕ) (at count : ℕ) (in-p : at + count ≤ length
   pub lower-not : (i : ℕ) → i < count → n ≤ getD p (at + i) 0 → false ≡ allLower n (take count (drop at p))
   lower-not i l u = run-fails p at count in-p (λ c. ltb c n) i l (le-ltb (getD p (at + i) 0) n u)
 
-  pub few-run : {r : Bool} → r ≡ allLower n (take count (drop at p)) → r ≡ true → n < 256 → (i : ℕ) → i < count → getD p (at + i) 0 < 256
+  pub few-run : {r : Bool} → r ≡ allLower n (take count (drop at p)) → r ≡ true → {m : ℕ} → 4 * n ≤ m → (i : ℕ) → i < count → 4 * getD p (at + i) 0 + 3 < m
   few-run e f l i m = omega (arith, lower-run (sym e ∙ f) i m)
 
 -- the size word of the node that word j names

@@ -44,7 +44,7 @@ Small (finite s) = s ≤ 2 ^ 62
 Small endless = Unit {0}
 
 pub record Planned (t : List ℕ) (zs : List Size) (n : ℕ) (plan : List ℕ) : Type 0 where
-  pub long : length plan ≡ 1024
+  pub long : 4 * nodes t ≤ length plan
   pub many : length zs ≡ n
   pub kind : (k : ℕ) → k < n → getD plan (4 * k) 0 ≡ kindOf t k
   pub a : (k : ℕ) → k < n → getD plan (4 * k + 1) 0 ≡ aOf t k
@@ -64,3 +64,4 @@ pub record AllWeighed (t p plan : List ℕ) (v : Verdict) : Type 0 where
 -- ---- a checked table by its plan
 pub record Ready (t p plan : List ℕ) : Type 0 where
   pub checked : Checked t p (sizeIn plan)
+  pub long : 4 * nodes t ≤ length plan

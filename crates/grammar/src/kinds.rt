@@ -97,8 +97,8 @@ pub fn pool_words(pool: &[u64], a: usize, b: usize) -> Weighed
     Weighed::Fault(Refusal::Repeat)
 }
 
-pub fn shift(table: &[u64], plan: &[u64; 1024], n: usize, a: usize, k: u64) -> Weighed
-    requires { ⌜ (length (now table) ≡ 3 * nodes (now table)) × (n < nodes (now table)) × (n < 256) ⌝ }
+pub fn shift(table: &[u64], plan: &[u64], n: usize, a: usize, k: u64) -> Weighed
+    requires { ⌜ (length (now table) ≡ 3 * nodes (now table)) × (n < nodes (now table)) × (4 * n ≤ length (now plan)) ⌝ }
     ensures { λ r. ⌜ r ≡ coded (shiftRow n a k (sizeIn (now (plan .entry)) a) (kindOf (now (table .entry)) a)) ⌝ }
 {
     if n <= a {
@@ -132,8 +132,8 @@ fn size_of(s: u64) -> Weighed
     }
 }
 
-pub fn or(plan: &[u64; 1024], n: usize, a: usize, b: usize) -> Weighed
-    requires { ⌜ n < 256 ⌝ }
+pub fn or(plan: &[u64], n: usize, a: usize, b: usize) -> Weighed
+    requires { ⌜ 4 * n ≤ length (now plan) ⌝ }
     ensures { λ r. ⌜ r ≡ coded (orRow n a b (sizeIn (now (plan .entry)) a) (sizeIn (now (plan .entry)) b)) ⌝ }
 {
     if n <= a {
@@ -146,8 +146,8 @@ pub fn or(plan: &[u64; 1024], n: usize, a: usize, b: usize) -> Weighed
     of_measured(m)
 }
 
-pub fn cons(plan: &[u64; 1024], n: usize, a: usize, b: usize) -> Weighed
-    requires { ⌜ n < 256 ⌝ }
+pub fn cons(plan: &[u64], n: usize, a: usize, b: usize) -> Weighed
+    requires { ⌜ 4 * n ≤ length (now plan) ⌝ }
     ensures { λ r. ⌜ r ≡ coded (consRow n a b (sizeIn (now (plan .entry)) a) (sizeIn (now (plan .entry)) b)) ⌝ }
 {
     if n <= a {
@@ -160,8 +160,8 @@ pub fn cons(plan: &[u64; 1024], n: usize, a: usize, b: usize) -> Weighed
     of_measured(m)
 }
 
-pub fn dep(pool: &[u64], plan: &[u64; 1024], n: usize, a: usize, b: usize) -> Weighed
-    requires { ⌜ n < 256 ⌝ }
+pub fn dep(pool: &[u64], plan: &[u64], n: usize, a: usize, b: usize) -> Weighed
+    requires { ⌜ 4 * n ≤ length (now plan) ⌝ }
     ensures { λ r. ⌜ r ≡ coded (depRow (now (pool .entry)) (sizeIn (now (plan .entry))) n a b) ⌝ }
 {
     if n <= a {
@@ -185,9 +185,9 @@ pub fn dep(pool: &[u64], plan: &[u64; 1024], n: usize, a: usize, b: usize) -> We
 }
 
 // The rest of a dep's row, where its seconds are lower nodes.
-fn dep_seconds(pool: &[u64], plan: &[u64; 1024], at: usize, count: usize) -> Weighed
+fn dep_seconds(pool: &[u64], plan: &[u64], at: usize, count: usize) -> Weighed
     requires { ⌜ at + count ≤ length (now pool) ⌝ }
-    requires { ⌜ ((i : ℕ) → i < count → getD (now pool) (at + i) 0 < 256) ⌝ }
+    requires { ⌜ ((i : ℕ) → i < count → 4 * getD (now pool) (at + i) 0 + 3 < length (now plan)) ⌝ }
     ensures { λ r. ⌜ r ≡ coded (secondsRow (sizeIn (now (plan .entry))) (take count (drop at (now (pool .entry))))) ⌝ }
 {
     if loops::all_finite(pool, plan, at, count) {
@@ -200,8 +200,8 @@ fn dep_seconds(pool: &[u64], plan: &[u64; 1024], at: usize, count: usize) -> Wei
     Weighed::Fault(Refusal::UnsuitedPart)
 }
 
-pub fn except(plan: &[u64; 1024], n: usize, a: usize, b: u64) -> Weighed
-    requires { ⌜ n < 256 ⌝ }
+pub fn except(plan: &[u64], n: usize, a: usize, b: u64) -> Weighed
+    requires { ⌜ 4 * n ≤ length (now plan) ⌝ }
     ensures { λ r. ⌜ r ≡ coded (exceptRow n a b (sizeIn (now (plan .entry)) a)) ⌝ }
 {
     if n <= a {
@@ -220,8 +220,8 @@ pub fn except(plan: &[u64; 1024], n: usize, a: usize, b: u64) -> Weighed
     Weighed::Of(size::one_less(s))
 }
 
-pub fn fix(plan: &[u64; 1024], n: usize, a: usize) -> Weighed
-    requires { ⌜ n < 256 ⌝ }
+pub fn fix(plan: &[u64], n: usize, a: usize) -> Weighed
+    requires { ⌜ 4 * n ≤ length (now plan) ⌝ }
     ensures { λ r. ⌜ r ≡ coded (fixRow n a (sizeIn (now (plan .entry)) a)) ⌝ }
 {
     if n <= a {

@@ -50,9 +50,9 @@ pub fn all_lower(pool: &[u64], at: usize, count: usize, n: usize) -> bool
 }
 
 // Whether the nodes that they name are all endless.
-pub fn all_endless(pool: &[u64], plan: &[u64; 1024], at: usize, count: usize) -> bool
+pub fn all_endless(pool: &[u64], plan: &[u64], at: usize, count: usize) -> bool
     requires { ⌜ at + count ≤ length (now pool) ⌝ }
-    requires { ⌜ ((i : ℕ) → i < count → getD (now pool) (at + i) 0 < 256) ⌝ }
+    requires { ⌜ ((i : ℕ) → i < count → 4 * getD (now pool) (at + i) 0 + 3 < length (now plan)) ⌝ }
     ensures { λ r. ⌜ r ≡ allEndless (sizeIn (now (plan .entry))) (take count (drop at (now (pool .entry)))) ⌝ }
 {
     for i in 0..count {
@@ -65,9 +65,9 @@ pub fn all_endless(pool: &[u64], plan: &[u64; 1024], at: usize, count: usize) ->
 }
 
 // Whether they are all finite.
-pub fn all_finite(pool: &[u64], plan: &[u64; 1024], at: usize, count: usize) -> bool
+pub fn all_finite(pool: &[u64], plan: &[u64], at: usize, count: usize) -> bool
     requires { ⌜ at + count ≤ length (now pool) ⌝ }
-    requires { ⌜ ((i : ℕ) → i < count → getD (now pool) (at + i) 0 < 256) ⌝ }
+    requires { ⌜ ((i : ℕ) → i < count → 4 * getD (now pool) (at + i) 0 + 3 < length (now plan)) ⌝ }
     ensures { λ r. ⌜ r ≡ allFinite (sizeIn (now (plan .entry))) (take count (drop at (now (pool .entry)))) ⌝ }
 {
     for i in 0..count {
@@ -80,9 +80,9 @@ pub fn all_finite(pool: &[u64], plan: &[u64; 1024], at: usize, count: usize) -> 
 }
 
 // The sum of their sizes, which are all finite.
-pub fn total_of(pool: &[u64], plan: &[u64; 1024], at: usize, count: usize) -> Measured
+pub fn total_of(pool: &[u64], plan: &[u64], at: usize, count: usize) -> Measured
     requires { ⌜ at + count ≤ length (now pool) ⌝ }
-    requires { ⌜ ((i : ℕ) → i < count → getD (now pool) (at + i) 0 < 256) ⌝ }
+    requires { ⌜ ((i : ℕ) → i < count → 4 * getD (now pool) (at + i) 0 + 3 < length (now plan)) ⌝ }
     requires { ⌜ ((i : ℕ) → i < count → getD (now plan) (4 * getD (now pool) (at + i) 0 + 3) 0 < 2 ^ 63) ⌝ }
     ensures { λ r. ⌜ r ≡ measured (total (sizeIn (now (plan .entry))) (take count (drop at (now (pool .entry))))) ⌝ }
 {

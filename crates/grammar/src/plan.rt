@@ -1,7 +1,7 @@
 // The nodes of a table, one after the other, and the plan that they are put into.
 ghost use mathlib.Core.Path.{_≡_};
 ghost use mathlib.Core.Bool.{_||_};
-ghost use Prim.Native.Nat.{_*_, _<_, _≤_};
+ghost use Prim.Native.Nat.{_+_, _*_, _<_, _≤_};
 ghost use lib.Dec.{eqb};
 ghost use lib.ListN.{length, replicate};
 ghost use Rattle.grammar.specs.Table.{nodes};
@@ -70,16 +70,8 @@ fn spare_words(kind: usize, a: u64, b: u64) -> bool
 }
 
 // The row of a node whose kind is known and whose spare words are zero.
-fn row(
-    table: &[u64],
-    pool: &[u64],
-    plan: &[u64; 1024],
-    n: usize,
-    kind: u64,
-    a: u64,
-    b: u64,
-) -> Weighed
-    requires { ⌜ (length (now table) ≡ 3 * nodes (now table)) × (n < nodes (now table)) × (n < 256) ⌝ }
+fn row(table: &[u64], pool: &[u64], plan: &[u64], n: usize, kind: u64, a: u64, b: u64) -> Weighed
+    requires { ⌜ (length (now table) ≡ 3 * nodes (now table)) × (n < nodes (now table)) × (4 * n ≤ length (now plan)) ⌝ }
     ensures { λ r. ⌜ r ≡ coded (rowOf (now (table .entry)) (now (pool .entry)) (sizeIn (now (plan .entry))) n (nodeOf kind a b)) ⌝ }
 {
     match kind {
@@ -98,8 +90,8 @@ fn row(
 }
 
 // "kind known (2) before the row"
-fn weigh(table: &[u64], pool: &[u64], plan: &[u64; 1024], n: usize) -> Weighed
-    requires { ⌜ (length (now table) ≡ 3 * nodes (now table)) × (n < nodes (now table)) × (n < 256) ⌝ }
+fn weigh(table: &[u64], pool: &[u64], plan: &[u64], n: usize) -> Weighed
+    requires { ⌜ (length (now table) ≡ 3 * nodes (now table)) × (n < nodes (now table)) × (4 * n ≤ length (now plan)) ⌝ }
     ensures { λ r. ⌜ r ≡ coded (rowAt (now (table .entry)) (now (pool .entry)) (sizeIn (now (plan .entry))) n) ⌝ }
 {
     let kind = table[3 * n];
@@ -115,8 +107,8 @@ fn weigh(table: &[u64], pool: &[u64], plan: &[u64; 1024], n: usize) -> Weighed
 }
 
 // A node's four words.
-fn put_row(plan: &mut [u64; 1024], n: usize, kind: u64, a: u64, b: u64, size: u64)
-    requires { ⌜ n < 256 ⌝ }
+fn put_row(plan: &mut [u64], n: usize, kind: u64, a: u64, b: u64, size: u64)
+    requires { ⌜ 4 * n + 3 < length (now plan) ⌝ }
     ensures { λ _. ⌜ now (plan .exit) ≡ rowed (now (plan .entry)) n kind a b size ⌝ }
 {
     plan[4 * n] = kind;
@@ -126,9 +118,9 @@ fn put_row(plan: &mut [u64; 1024], n: usize, kind: u64, a: u64, b: u64, size: u6
 }
 
 // "then nodes rising": the first fault and its node, or the plan of them all.
-pub fn weigh_all(table: &[u64], pool: &[u64], plan: &mut [u64; 1024]) -> Verdict
-    requires { ⌜ (length (now table) ≡ 3 * nodes (now table)) × (nodes (now table) ≤ 256) ⌝ }
-    requires { ⌜ now plan ≡ replicate 1024 0 ⌝ }
+pub fn weigh_all(table: &[u64], pool: &[u64], plan: &mut [u64]) -> Verdict
+    requires { ⌜ length (now table) ≡ 3 * nodes (now table) ⌝ }
+    requires { ⌜ (now plan ≡ replicate (length (now plan)) 0) × (4 * nodes (now table) ≤ length (now plan)) ⌝ }
     ensures { λ r. ⌜ AllWeighed (now (table .entry)) (now (pool .entry)) (now (plan .exit)) r ⌝ }
 {
     let count = table.len() / 3;

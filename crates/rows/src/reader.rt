@@ -1,10 +1,11 @@
 // "A reader hands out one case at a time from the front of a lent row": a struct of the lent row and a place,
 // thin over the covered slice-and-place function.
 ghost use mathlib.Core.Path.{_≡_};
-ghost use Rattle.checked.specs.Prepared.{Planning};
+ghost use Rattle.checked.specs.Prepared.{Blank, Planning};
 ghost use Rattle.rows.specs.Reader.{nextOf, afterOf, strideOf, stridePlanned};
 use checked::item::Item;
 use checked::item::item_at;
+use checked::prepared::SMALL;
 use checked::prepared::prepare;
 use grammar::refusal::Refusal;
 use grammar::refusal::Verdict;
@@ -26,7 +27,7 @@ pub struct Stride {
 fn stride_planned(
     table: &[u64],
     pool: &[u64],
-    plan: &[u64; 1024],
+    plan: &[u64],
     start: usize,
     row: &[u64],
     at: usize,
@@ -58,19 +59,38 @@ fn stride_planned(
     }
 }
 
-// The covered function on a slice and a place: the answer and the next place together.
-fn stride_at(table: &[u64], pool: &[u64], start: usize, row: &[u64], at: usize) -> Stride
+// The call over a lent plan: the check comes first.
+fn stride_with(
+    plan: &mut [u64],
+    table: &[u64],
+    pool: &[u64],
+    start: usize,
+    row: &[u64],
+    at: usize,
+) -> Stride
+    requires { ⌜ Blank (now table) (now plan) ⌝ }
     ensures { λ r. ⌜ r ≡ strideOf (now (table .entry)) (now (pool .entry)) start (now (row .entry)) at ⌝ }
 {
-    let mut plan = [0u64; 1024];
-    let v = prepare(table, pool, &mut plan);
+    let v = prepare(table, pool, plan);
     match v {
         Verdict::Refused(r, k) => Stride {
             answer: Next::Refused(r, k),
             at,
         },
-        Verdict::Accepted => stride_planned(table, pool, &plan, start, row, at),
+        Verdict::Accepted => stride_planned(table, pool, plan, start, row, at),
     }
+}
+
+// The covered function on a slice and a place: the answer and the next place together.
+fn stride_at(table: &[u64], pool: &[u64], start: usize, row: &[u64], at: usize) -> Stride
+    ensures { λ r. ⌜ r ≡ strideOf (now (table .entry)) (now (pool .entry)) start (now (row .entry)) at ⌝ }
+{
+    if table.len() <= SMALL {
+        let mut plan = [0u64; 64];
+        return stride_with(&mut plan, table, pool, start, row, at);
+    }
+    let mut plan = [0u64; 1024];
+    stride_with(&mut plan, table, pool, start, row, at)
 }
 
 pub struct Reader<'a> {

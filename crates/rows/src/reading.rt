@@ -3,17 +3,18 @@ ghost use mathlib.Core.Path.{_≡_};
 ghost use lib.ListN.{length};
 ghost use Rattle.walk.specs.Grammar.{planned};
 ghost use Rattle.walk.specs.Filled.{over};
-ghost use Rattle.checked.specs.Prepared.{Planning, Stands};
+ghost use Rattle.checked.specs.Prepared.{Blank, Planning, Stands};
 ghost use Rattle.rows.specs.ReadRow.{gather, answered, Gathers, gotten, GotRow, GotRowPlanned};
 use super::answer::Row;
 use checked::item::Item;
 use checked::item::item_at;
+use checked::prepared::SMALL;
 use checked::prepared::prepare;
 use grammar::refusal::Refusal;
 use grammar::refusal::Verdict;
 
 // "the walk, then 16, then 14 if the buffer of numbers is full": decides without storing a number.
-fn count_row(plan: &[u64; 1024], pool: &[u64], start: usize, cells: &[u64], room: usize) -> Row
+fn count_row(plan: &[u64], pool: &[u64], start: usize, cells: &[u64], room: usize) -> Row
     requires { ⌜ Stands (now plan) (now pool) start ⌝ }
     ensures { λ r. ⌜ r ≡ answered (length (now (cells .entry))) (gather (planned (now (plan .entry)) (now (pool .entry))) start room (now (cells .entry))) ⌝ }
 {
@@ -37,7 +38,7 @@ fn count_row(plan: &[u64; 1024], pool: &[u64], start: usize, cells: &[u64], room
 }
 
 // Stores the numbers of a row that is known to be readable and to have room for them.
-fn store_row(plan: &[u64; 1024], pool: &[u64], start: usize, cells: &[u64], numbers: &mut [u64])
+fn store_row(plan: &[u64], pool: &[u64], start: usize, cells: &[u64], numbers: &mut [u64])
     requires { ⌜ Stands (now plan) (now pool) start ⌝ }
     requires { ⌜ Gathers (gather (planned (now plan) (now pool)) start (length (now numbers)) (now cells)) ⌝ }
     ensures { λ _. ⌜ now (numbers .exit) ≡ over (gotten (gather (planned (now (plan .entry)) (now (pool .entry))) start (length (now (numbers .entry))) (now (cells .entry)))) (now (numbers .entry)) ⌝ }
@@ -62,7 +63,7 @@ fn store_row(plan: &[u64; 1024], pool: &[u64], start: usize, cells: &[u64], numb
 fn read_planned(
     table: &[u64],
     pool: &[u64],
-    plan: &[u64; 1024],
+    plan: &[u64],
     start: usize,
     cells: &[u64],
     numbers: &mut [u64],
@@ -82,6 +83,25 @@ fn read_planned(
     }
 }
 
+// The call over a lent plan: the check comes first.
+fn read_row_with(
+    plan: &mut [u64],
+    table: &[u64],
+    pool: &[u64],
+    start: usize,
+    cells: &[u64],
+    numbers: &mut [u64],
+) -> Row
+    requires { ⌜ Blank (now table) (now plan) ⌝ }
+    ensures { λ r. ⌜ GotRow (now (table .entry)) (now (pool .entry)) start (now (cells .entry)) (now (numbers .entry)) (now (numbers .exit)) r ⌝ }
+{
+    let v = prepare(table, pool, plan);
+    match v {
+        Verdict::Refused(r, k) => Row::Refused(r, k, 0),
+        Verdict::Accepted => read_planned(table, pool, plan, start, cells, numbers),
+    }
+}
+
 // The numbers of a row of cases, stored into a lent buffer.
 pub fn read_row(
     table: &[u64],
@@ -92,10 +112,10 @@ pub fn read_row(
 ) -> Row
     ensures { λ r. ⌜ GotRow (now (table .entry)) (now (pool .entry)) start (now (cells .entry)) (now (numbers .entry)) (now (numbers .exit)) r ⌝ }
 {
-    let mut plan = [0u64; 1024];
-    let v = prepare(table, pool, &mut plan);
-    match v {
-        Verdict::Refused(r, k) => Row::Refused(r, k, 0),
-        Verdict::Accepted => read_planned(table, pool, &plan, start, cells, numbers),
+    if table.len() <= SMALL {
+        let mut plan = [0u64; 64];
+        return read_row_with(&mut plan, table, pool, start, cells, numbers);
     }
+    let mut plan = [0u64; 1024];
+    read_row_with(&mut plan, table, pool, start, cells, numbers)
 }

@@ -4,20 +4,21 @@ ghost use Prim.Native.Nat.{ℕ, _<_};
 ghost use lib.ListN.{length, getD};
 ghost use Rattle.walk.specs.Grammar.{planned};
 ghost use Rattle.walk.specs.Filled.{over};
-ghost use Rattle.checked.specs.Prepared.{Planning, Stands};
+ghost use Rattle.checked.specs.Prepared.{Blank, Planning, Stands};
 ghost use Rattle.checked.specs.Fits.{Asked};
 ghost use Rattle.rows.specs.WriteRow.{inTurn, rowOf, WroteRow, WroteRowPlanned};
 use super::answer::Row;
 use checked::fits::DEPTH;
 use checked::fits::Fit;
 use checked::fits::fits;
+use checked::prepared::SMALL;
 use checked::prepared::prepare;
 use grammar::refusal::Refusal;
 use grammar::refusal::Verdict;
 use walk::fill::fill;
 
 // "items in order; the first that is refused stops the call": decides without writing.
-fn tally_row(plan: &[u64; 1024], pool: &[u64], start: usize, numbers: &[u64], room: usize) -> Row
+fn tally_row(plan: &[u64], pool: &[u64], start: usize, numbers: &[u64], room: usize) -> Row
     requires { ⌜ Stands (now plan) (now pool) start ⌝ }
     ensures { λ r. ⌜ r ≡ inTurn (planned (now (plan .entry)) (now (pool .entry))) start room (now (numbers .entry)) ⌝ }
 {
@@ -38,7 +39,7 @@ fn tally_row(plan: &[u64; 1024], pool: &[u64], start: usize, numbers: &[u64], ro
 }
 
 // The cases "written one after another with no marks between".
-fn fill_row(plan: &[u64; 1024], pool: &[u64], start: usize, numbers: &[u64], cells: &mut [u64])
+fn fill_row(plan: &[u64], pool: &[u64], start: usize, numbers: &[u64], cells: &mut [u64])
     requires { ⌜ Stands (now plan) (now pool) start ⌝ }
     requires { ⌜ ((j : ℕ) → j < length (now numbers) → Asked (planned (now plan) (now pool) .size start) (getD (now numbers) j 0)) ⌝ }
     ensures { λ _. ⌜ now (cells .exit) ≡ over (rowOf (planned (now (plan .entry)) (now (pool .entry))) start (now (numbers .entry))) (now (cells .entry)) ⌝ }
@@ -56,7 +57,7 @@ fn fill_row(plan: &[u64; 1024], pool: &[u64], start: usize, numbers: &[u64], cel
 fn write_planned(
     table: &[u64],
     pool: &[u64],
-    plan: &[u64; 1024],
+    plan: &[u64],
     start: usize,
     numbers: &[u64],
     cells: &mut [u64],
@@ -76,6 +77,25 @@ fn write_planned(
     }
 }
 
+// The call over a lent plan: the check comes first.
+fn write_row_with(
+    plan: &mut [u64],
+    table: &[u64],
+    pool: &[u64],
+    start: usize,
+    numbers: &[u64],
+    cells: &mut [u64],
+) -> Row
+    requires { ⌜ Blank (now table) (now plan) ⌝ }
+    ensures { λ r. ⌜ WroteRow (now (table .entry)) (now (pool .entry)) start (now (numbers .entry)) (now (cells .entry)) (now (cells .exit)) r ⌝ }
+{
+    let v = prepare(table, pool, plan);
+    match v {
+        Verdict::Refused(r, k) => Row::Refused(r, k, 0),
+        Verdict::Accepted => write_planned(table, pool, plan, start, numbers, cells),
+    }
+}
+
 // The cases of numbers, one after another, written into a lent buffer.
 pub fn write_row(
     table: &[u64],
@@ -86,10 +106,10 @@ pub fn write_row(
 ) -> Row
     ensures { λ r. ⌜ WroteRow (now (table .entry)) (now (pool .entry)) start (now (numbers .entry)) (now (cells .entry)) (now (cells .exit)) r ⌝ }
 {
-    let mut plan = [0u64; 1024];
-    let v = prepare(table, pool, &mut plan);
-    match v {
-        Verdict::Refused(r, k) => Row::Refused(r, k, 0),
-        Verdict::Accepted => write_planned(table, pool, &plan, start, numbers, cells),
+    if table.len() <= SMALL {
+        let mut plan = [0u64; 64];
+        return write_row_with(&mut plan, table, pool, start, numbers, cells);
     }
+    let mut plan = [0u64; 1024];
+    write_row_with(&mut plan, table, pool, start, numbers, cells)
 }

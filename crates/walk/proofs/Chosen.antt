@@ -74,9 +74,9 @@ module _ {plan p : List ℕ} {i off a : ℕ} (b : ℕ) (h : Reading plan p i off
 
     pub dep-joins : DepJoins plan p a b x
     dep-joins = record {
-      first = omega (arith, l, h .walks .few);
+      first = omega (arith, l, h .walks .long);
       inside = in-pool;
-      nodes = λ j k. omega (arith, node-in j k, h .walks .few);
+      nodes = λ j k. omega (arith, node-in j k, h .walks .long);
       finite = λ f. finite-run plan p b (firsts plan a) in-pool refl (run-finite plan p b (firsts plan a) in-pool some-is (rw (← count-is) (s .alike)) f);
       sum = sum-is;
       not-endless = run-not-endless plan p b (firsts plan a) in-pool some-is;

@@ -51,8 +51,8 @@ abbrev pub bAt : List ℕ → ℕ → ℕ
 bAt plan i = getD plan (4 * i + 2) 0
 
 module _ {plan p : List ℕ} {i : ℕ} (w : Walkable plan p) (l : i < w .count) where
-  pub in-plan : i < 256
-  in-plan = omega (arith, l, w .few)
+  pub in-plan : 4 * i + 3 < length plan
+  in-plan = omega (arith, l, w .long)
 
   pub fits-at : (k : ℕ) → kindAt plan i ≡ k → Fits (planned plan p) (w .count) i (nodeOf k (aAt plan i) (bAt plan i))
   fits-at k e = subst (λ (kind : ℕ). Fits (planned plan p) (w .count) i (nodeOf kind (aAt plan i) (bAt plan i))) e (w .good .fits i l)
@@ -69,21 +69,21 @@ module _ {plan p : List ℕ} {i : ℕ} (w : Walkable plan p) (l : i < w .count) 
   unfolding nodeOf
   shift-single e = (fits-at 3 e .0, fits-at 3 e .3)
 
-  pub or-a : kindAt plan i ≡ 4 → aAt plan i < 256
+  pub or-a : kindAt plan i ≡ 4 → 4 * aAt plan i + 3 < length plan
   unfolding nodeOf
-  or-a e = omega (arith, fits-at 4 e .0, w .few)
+  or-a e = omega (arith, fits-at 4 e .0, w .long)
 
-  pub or-b : kindAt plan i ≡ 4 → bAt plan i < 256
+  pub or-b : kindAt plan i ≡ 4 → 4 * bAt plan i + 3 < length plan
   unfolding nodeOf
-  or-b e = omega (arith, fits-at 4 e .1, w .few)
+  or-b e = omega (arith, fits-at 4 e .1, w .long)
 
-  pub cons-a : kindAt plan i ≡ 5 → aAt plan i < 256
+  pub cons-a : kindAt plan i ≡ 5 → 4 * aAt plan i + 3 < length plan
   unfolding nodeOf
-  cons-a e = omega (arith, fits-at 5 e .0, w .few)
+  cons-a e = omega (arith, fits-at 5 e .0, w .long)
 
-  pub cons-b : kindAt plan i ≡ 5 → bAt plan i < 256
+  pub cons-b : kindAt plan i ≡ 5 → 4 * bAt plan i + 3 < length plan
   unfolding nodeOf
-  cons-b e = omega (arith, fits-at 5 e .1, w .few)
+  cons-b e = omega (arith, fits-at 5 e .1, w .long)
 
   pub cons-some-a : kindAt plan i ≡ 5 → 0 < getD plan (4 * aAt plan i + 3) 0
   unfolding nodeOf
@@ -131,5 +131,5 @@ module _ {plan p : List ℕ} {i : ℕ} (w : Walkable plan p) (l : i < w .count) 
     pub node-in : (j : ℕ) → j < firsts plan (aAt plan i) → getD p (bAt plan i + j) 0 < w .count
     node-in j h = lower-run (w .count) p (bAt plan i) (firsts plan (aAt plan i)) in-pool lower j h
 
-    pub node-at : (j : ℕ) → j < firsts plan (aAt plan i) → getD p (bAt plan i + j) 0 < 256
-    node-at j h = omega (arith, node-in j h, w .few)
+    pub node-at : (j : ℕ) → j < firsts plan (aAt plan i) → 4 * getD p (bAt plan i + j) 0 + 3 < length plan
+    node-at j h = omega (arith, node-in j h, w .long)

@@ -5,7 +5,7 @@
 -- Assumes nothing.
 use mathlib.Core.Path.{_≡_, refl, sym, _∙_}
 use mathlib.Core.List.{List, [], _∷_}
-use Prim.Native.Nat.{ℕ, zero, suc, _+_, _^_, _≤_, _<_}
+use Prim.Native.Nat.{ℕ, zero, suc, _+_, _*_, _^_, _≤_, _<_}
 use native.Mathlib.Nat.{add-zero}
 use native.Mathlib.Numerals.{add-one}
 use native.Mathlib.Omega.{arith}
@@ -58,7 +58,7 @@ total-take [] (suc x) = omega arith
 total-take (t ∷ ts) (suc x) = omega (arith, total-take ts x)
 
 module _ {plan p : List ℕ} {a b x : ℕ} (d : DepJoins plan p a b x) where
-  pub head-small : getD p b 0 < 256
+  pub head-small : 4 * getD p b 0 + 3 < length plan
   head-small = rw (add-zero b) at (d .nodes 0 (omega (arith, d .chosen)))
 
   before-is : take x (counts (sizeIn plan) (take (firsts plan a) (drop b p))) ≡ counts (sizeIn plan) (take x (drop b p))

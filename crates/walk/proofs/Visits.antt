@@ -43,7 +43,7 @@ module _ {plan p : List ℕ} {i n : ℕ} (v : Visits plan p i n) where
     pub dep-ready : DepReady plan p (aAt plan i) (bAt plan i) n
     unfolding nodeOf
     dep-ready = record {
-      first = omega (arith, fits-at (v .walks) (v .node) 6 e .0, v .walks .few);
+      first = omega (arith, fits-at (v .walks) (v .node) 6 e .0, v .walks .long);
       some = Nodes.some-is (v .walks) (v .node) e;
       counted = Nodes.count-is (v .walks) (v .node) e;
       inside = Nodes.in-pool (v .walks) (v .node) e;

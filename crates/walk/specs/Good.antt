@@ -59,7 +59,7 @@ pub record Good (g : Grammar) (count : ℕ) : Type 0 where
 
 pub record Walkable (plan p : List ℕ) : Type 0 where
   pub count : ℕ
-  pub few : count ≤ 256
+  pub long : 4 * count ≤ length plan
   pub good : Good (planned plan p) count
 
 pub record Visits (plan p : List ℕ) (i n : ℕ) : Type 0 where
@@ -78,12 +78,12 @@ abbrev pub headSize : List ℕ → List ℕ → ℕ → ℕ
 headSize plan p b = getD plan (4 * getD p b 0 + 3) 0
 
 pub record DepReady (plan p : List ℕ) (a b n : ℕ) : Type 0 where
-  pub first : a < 256
+  pub first : 4 * a + 3 < length plan
   pub some : 0 < firsts plan a
   pub counted : countOf (sizeIn plan a) ≡ firsts plan a
   pub inside : b + firsts plan a ≤ length p
-  pub nodes : (j : ℕ) → j < firsts plan a → getD p (b + j) 0 < 256
-  pub head : getD p b 0 < 256
+  pub nodes : (j : ℕ) → j < firsts plan a → 4 * getD p (b + j) 0 + 3 < length plan
+  pub head : 4 * getD p b 0 + 3 < length plan
   pub finite : headSize plan p b < 2 ^ 63 → (j : ℕ) → j < firsts plan a → secondSize plan p b j < 2 ^ 63
   pub endless : 2 ^ 63 ≤ headSize plan p b → allEndless (sizeIn plan) (take (firsts plan a) (drop b p)) ≡ true
   pub chosen : Dep.split (secondsOf (sizeIn plan) (take (firsts plan a) (drop b p))) n .first < firsts plan a

@@ -5,7 +5,7 @@
 use mathlib.Core.Path.{_≡_}
 use mathlib.Core.Bool.{true, false}
 use mathlib.Core.List.{List}
-use Prim.Native.Nat.{ℕ, _+_, _-_, _^_, _≤_, _<_}
+use Prim.Native.Nat.{ℕ, _+_, _*_, _-_, _^_, _≤_, _<_}
 use lib.Dec.{eqb}
 use lib.ListN.{length, getD, take, drop}
 use Rattle.numbers.specs.Pick.{pick}
@@ -71,9 +71,9 @@ pub record Took (least : ℕ) (w : Read) (cells : List ℕ) (stop : ℕ) (r : Go
 
 -- what the code needs to join a dep's numbers: x is below the size of the first part
 pub record DepJoins (plan p : List ℕ) (a b x : ℕ) : Type 0 where
-  pub first : a < 256
+  pub first : 4 * a + 3 < length plan
   pub inside : b + firsts plan a ≤ length p
-  pub nodes : (j : ℕ) → j < firsts plan a → getD p (b + j) 0 < 256
+  pub nodes : (j : ℕ) → j < firsts plan a → 4 * getD p (b + j) 0 + 3 < length plan
   pub finite : headSize plan p b < 2 ^ 63 → (j : ℕ) → j < firsts plan a → secondSize plan p b j < 2 ^ 63
   pub sum : headSize plan p b < 2 ^ 63 → Dep.total (counts (sizeIn plan) (take (firsts plan a) (drop b p))) < 2 ^ 63
   pub not-endless : headSize plan p b < 2 ^ 63 → false ≡ allEndless (sizeIn plan) (take (firsts plan a) (drop b p))

@@ -10,14 +10,7 @@ use super::step::step_of;
 
 // "The second part's cells start right after the first part's": the middle of the buffer that
 // remains is lent on for them.
-pub fn fill(
-    plan: &[u64; 1024],
-    pool: &[u64],
-    i: usize,
-    n: u64,
-    left: usize,
-    out: &mut [u64],
-) -> usize
+pub fn fill(plan: &[u64], pool: &[u64], i: usize, n: u64, left: usize, out: &mut [u64]) -> usize
     requires { ⌜ Visits (now plan) (now pool) i n ⌝ }
     requires { ⌜ (n + left ≤ 2 ^ 62 + 200) × (left ≤ 200) ⌝ }
     ensures { λ r. ⌜ Filled (cells (walk (planned (now (plan .entry)) (now (pool .entry))) left i n)) (now (out .entry)) (now (out .exit)) r ⌝ }

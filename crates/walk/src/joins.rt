@@ -12,8 +12,8 @@ use super::number::got_of;
 use numbers::size::ENDLESS;
 
 // A cons: x is the first part's number, g what was read of the second.
-pub fn paired(plan: &[u64; 1024], a: usize, b: usize, x: u64, g: Got) -> Got
-    requires { ⌜ (a < 256) × (b < 256) ⌝ }
+pub fn paired(plan: &[u64], a: usize, b: usize, x: u64, g: Got) -> Got
+    requires { ⌜ (4 * a + 3 < length (now plan)) × (4 * b + 3 < length (now plan)) ⌝ }
     ensures { λ r. ⌜ r ≡ joinedBy (Cons.join (sizeIn (now (plan .entry)) a) (sizeIn (now (plan .entry)) b) x) g ⌝ }
 {
     match g {
@@ -29,9 +29,9 @@ pub fn paired(plan: &[u64; 1024], a: usize, b: usize, x: u64, g: Got) -> Got
 }
 
 // The sum of the sizes of a dep's seconds before the one at x.
-fn before(plan: &[u64; 1024], pool: &[u64], b: usize, x: usize) -> u64
+fn before(plan: &[u64], pool: &[u64], b: usize, x: usize) -> u64
     requires { ⌜ b + x ≤ length (now pool) ⌝ }
-    requires { ⌜ ((j : ℕ) → j < x → getD (now pool) (b + j) 0 < 256) ⌝ }
+    requires { ⌜ ((j : ℕ) → j < x → 4 * getD (now pool) (b + j) 0 + 3 < length (now plan)) ⌝ }
     requires { ⌜ ((j : ℕ) → j < x → getD (now plan) (4 * getD (now pool) (b + j) 0 + 3) 0 < 2 ^ 63) ⌝ }
     requires { ⌜ Dep.total (counts (sizeIn (now plan)) (take x (drop b (now pool)))) < 2 ^ 63 ⌝ }
     ensures { λ r. ⌜ r ≡ Dep.total (counts (sizeIn (now (plan .entry))) (take x (drop b (now (pool .entry))))) ⌝ }
@@ -45,7 +45,7 @@ fn before(plan: &[u64; 1024], pool: &[u64], b: usize, x: usize) -> u64
 }
 
 // A dep: x is the first part's number, g what was read of the second that it chooses.
-pub fn depended(plan: &[u64; 1024], pool: &[u64], a: usize, b: usize, x: u64, g: Got) -> Got
+pub fn depended(plan: &[u64], pool: &[u64], a: usize, b: usize, x: u64, g: Got) -> Got
     requires { ⌜ DepJoins (now plan) (now pool) a b x ⌝ }
     ensures { λ r. ⌜ r ≡ joinedBy (Dep.join (secondsOf (sizeIn (now (plan .entry))) (take (getD (now (plan .entry)) (4 * a + 3) 0) (drop b (now (pool .entry))))) x) g ⌝ }
 {

@@ -119,8 +119,8 @@ fn pool_next(pool: &[u64], a: usize, b: usize, cells: &[u64], at: usize, stop: u
 }
 
 // "a tag above 1"
-fn or_next(plan: &[u64; 1024], a: usize, b: usize, cells: &[u64], at: usize, stop: usize) -> Next
-    requires { ⌜ (a < 256) × (b < 256) ⌝ }
+fn or_next(plan: &[u64], a: usize, b: usize, cells: &[u64], at: usize, stop: usize) -> Next
+    requires { ⌜ (4 * a + 3 < length (now plan)) × (4 * b + 3 < length (now plan)) ⌝ }
     ensures { λ r. ⌜ ((p : List ℕ) (off : ℕ) → ahead (sizeIn (now (plan .entry))) p (or a b) off (stop - at) (drop at (now (cells .entry))) ≡ seen (now (plan .entry)) p (now (cells .entry)) stop r) ⌝ }
 {
     match cell_at(cells, at, stop) {
@@ -138,7 +138,7 @@ fn or_next(plan: &[u64; 1024], a: usize, b: usize, cells: &[u64], at: usize, sto
 }
 
 pub fn next_of(
-    plan: &[u64; 1024],
+    plan: &[u64],
     pool: &[u64],
     i: usize,
     off: u64,

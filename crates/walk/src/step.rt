@@ -45,8 +45,8 @@ fn tag_of(a: usize, b: usize, p: Part) -> Step
     }
 }
 
-fn or_step(plan: &[u64; 1024], a: usize, b: usize, n: u64) -> Step
-    requires { ⌜ (a < 256) × (b < 256) ⌝ }
+fn or_step(plan: &[u64], a: usize, b: usize, n: u64) -> Step
+    requires { ⌜ (4 * a + 3 < length (now plan)) × (4 * b + 3 < length (now plan)) ⌝ }
     ensures { λ r. ⌜ ((p : List ℕ) → r ≡ stepOf (sizeIn (now (plan .entry))) p (or a b) n) ⌝ }
 {
     tag_of(
@@ -56,8 +56,8 @@ fn or_step(plan: &[u64; 1024], a: usize, b: usize, n: u64) -> Step
     )
 }
 
-fn cons_step(plan: &[u64; 1024], a: usize, b: usize, n: u64) -> Step
-    requires { ⌜ (a < 256) × (b < 256) ⌝ }
+fn cons_step(plan: &[u64], a: usize, b: usize, n: u64) -> Step
+    requires { ⌜ (4 * a + 3 < length (now plan)) × (4 * b + 3 < length (now plan)) ⌝ }
     requires { ⌜ (0 < getD (now plan) (4 * a + 3) 0) × (0 < getD (now plan) (4 * b + 3) 0) ⌝ }
     ensures { λ r. ⌜ ((p : List ℕ) → r ≡ stepOf (sizeIn (now (plan .entry))) p (cons a b) n) ⌝ }
 {
@@ -66,9 +66,9 @@ fn cons_step(plan: &[u64; 1024], a: usize, b: usize, n: u64) -> Step
 }
 
 // "Seconds finite: all pairs of first 0, then of first 1, and so on."
-fn in_turn(plan: &[u64; 1024], pool: &[u64], at: usize, count: usize, n: u64) -> Pair
+fn in_turn(plan: &[u64], pool: &[u64], at: usize, count: usize, n: u64) -> Pair
     requires { ⌜ at + count ≤ length (now pool) ⌝ }
-    requires { ⌜ ((i : ℕ) → i < count → getD (now pool) (at + i) 0 < 256) ⌝ }
+    requires { ⌜ ((i : ℕ) → i < count → 4 * getD (now pool) (at + i) 0 + 3 < length (now plan)) ⌝ }
     requires { ⌜ ((i : ℕ) → i < count → getD (now plan) (4 * getD (now pool) (at + i) 0 + 3) 0 < 2 ^ 63) ⌝ }
     ensures { λ r. ⌜ r ≡ inTurn (counts (sizeIn (now (plan .entry))) (take count (drop at (now (pool .entry))))) n ⌝ }
 {
@@ -91,7 +91,7 @@ fn in_turn(plan: &[u64; 1024], pool: &[u64], at: usize, count: usize, n: u64) ->
 }
 
 // "dep (004)": the second is chosen by the first part's number.
-fn dep_step(plan: &[u64; 1024], pool: &[u64], a: usize, b: usize, n: u64) -> Step
+fn dep_step(plan: &[u64], pool: &[u64], a: usize, b: usize, n: u64) -> Step
     requires { ⌜ DepReady (now plan) (now pool) a b n ⌝ }
     ensures { λ r. ⌜ r ≡ stepOf (sizeIn (now (plan .entry))) (now (pool .entry)) (dep a b) n ⌝ }
 {
@@ -107,7 +107,7 @@ fn dep_step(plan: &[u64; 1024], pool: &[u64], a: usize, b: usize, n: u64) -> Ste
     Step::Two(a, q.first, pool[b + x] as usize, q.second)
 }
 
-pub fn step_of(plan: &[u64; 1024], pool: &[u64], i: usize, n: u64) -> Step
+pub fn step_of(plan: &[u64], pool: &[u64], i: usize, n: u64) -> Step
     requires { ⌜ Visits (now plan) (now pool) i n ⌝ }
     requires { ⌜ n ≤ 2 ^ 62 + 200 ⌝ }
     ensures { λ r. ⌜ r ≡ visit (planned (now (plan .entry)) (now (pool .entry))) i n ⌝ }

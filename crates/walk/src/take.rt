@@ -19,7 +19,7 @@ use numbers::joined::cap;
 // "Reading walks the same nodes from cells": from the place `at`, where a case may have no cell from
 // `stop` on. Numbers too big to hold are Big: what they would be can fall by one with each visit.
 pub fn take(
-    plan: &[u64; 1024],
+    plan: &[u64],
     pool: &[u64],
     i: usize,
     left: usize,

@@ -16,14 +16,7 @@ pub enum RoomLeft {
 }
 
 // "visits the node's parts at one depth more": the walk calls itself on parts, and the depth left falls.
-pub fn tally(
-    plan: &[u64; 1024],
-    pool: &[u64],
-    i: usize,
-    n: u64,
-    left: usize,
-    room: usize,
-) -> RoomLeft
+pub fn tally(plan: &[u64], pool: &[u64], i: usize, n: u64, left: usize, room: usize) -> RoomLeft
     requires { ⌜ Visits (now plan) (now pool) i n ⌝ }
     requires { ⌜ n + left ≤ 2 ^ 62 + 200 ⌝ }
     ensures { λ r. ⌜ r ≡ tallied room (walk (planned (now (plan .entry)) (now (pool .entry))) left i n) ⌝ }

@@ -15,4 +15,4 @@ judge-spec =
     (λ c κs. search needs)
     (λ c. search cycles-10)
     (λ c. search cycles-none)
-    (λ c. cycles-no-again (c .before .before .before .before .pre) (c .before .has-again .ensures) (c .if1 .left)))
+    (λ c. cycles-no-again (c .before .before .before .before .before .pre) (c .before .has-again .ensures) (c .if1 .left)))

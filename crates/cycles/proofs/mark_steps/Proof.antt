@@ -2,7 +2,7 @@
 -- Assumes nothing.
 use borrow.Author.Needs.{needs}
 use native.Mathlib.Omega.{arith}
-use Rattle.cycles.proofs.Steps.{a-few, kind-few, or-few, cons-few, run-in, seconds-few, mark-low, mark-or, mark-or-first, mark-cons, mark-dep, mark-rest}
+use Rattle.cycles.proofs.Steps.{a-few, dep-row, kind-few, or-few, cons-few, run-in, seconds-few, mark-low, mark-or, mark-or-first, mark-cons, mark-dep, mark-rest}
 use Rattle.cycles.proofs.mark_steps.Statement.{statement}
 use Rattle.cycles.proofs.mark_steps.Tie as tie
 
@@ -25,13 +25,13 @@ mark-steps-spec =
     (λ c. search a-few)
     (λ c. search or-few)
     (λ c. search cons-few)
-    (λ c. omega (arith, a-few (c .before .before .before .before .before .before .before .pre .0) (c .before .before .before .before .before .before .before .pre .1) (omega arith)))
-    (λ c. omega (arith, a-few (c .before .before .before .before .before .before .before .pre .0) (c .before .before .before .before .before .before .before .pre .1) (omega arith)))
-    (λ c. omega (arith, a-few (c .before .before .before .before .before .before .before .pre .0) (c .before .before .before .before .before .before .before .pre .1) (omega arith)))
-    (λ c. omega (arith, a-few (c .before .before .before .before .before .before .before .pre .0) (c .before .before .before .before .before .before .before .pre .1) (omega arith)))
+    (λ c. omega (arith, a-few (c .before .before .before .before .before .before .before .before .pre .0) (c .before .before .before .before .before .before .before .before .pre .1) (omega arith)))
+    (λ c. omega (arith, a-few (c .before .before .before .before .before .before .before .before .pre .0) (c .before .before .before .before .before .before .before .before .pre .1) (omega arith)))
+    (λ c. omega (arith, a-few (c .before .before .before .before .before .before .before .before .pre .0) (c .before .before .before .before .before .before .before .before .pre .1) (omega arith)))
+    (λ c. search dep-row)
     (λ c κs. search (run-in, seconds-few))
     (λ c. search mark-or)
     (λ c. search mark-or-first)
     (λ c. search mark-cons)
     (λ c. search mark-dep)
-    (λ c. mark-rest _ _ (c .before .before .before .before .before .before .before .args .table .now) _ _ (c .before .before .before .before .before .before .before .args .n) (c .before .before .before .if1 .left) (kind-few (c .before .before .before .before .before .before .before .pre .0) (c .before .before .before .before .before .before .before .pre .1)) (c .match .rest .0 .0 .1) (c .match .rest .0 .1) (c .match .rest .1)))
+    (λ c. mark-rest _ _ (c .before .before .before .before .before .before .before .before .args .table .now) _ _ (c .before .before .before .before .before .before .before .before .args .n) (c .before .before .before .if1 .left) (kind-few (c .before .before .before .before .before .before .before .before .pre .0) (c .before .before .before .before .before .before .before .before .pre .1)) (c .match .rest .0 .0 .1) (c .match .rest .0 .1) (c .match .rest .1)))

@@ -11,4 +11,4 @@ unguarded-spec =
     tie.close
     (tie.spec
     (λ c κs. search needs)
-    (λ c. lowest-again false (c .before .before .before .pre) (c .lowest-of-kind .ensures)))
+    (λ c. lowest-again false (c .before .before .before .before .pre) (c .lowest-of-kind .ensures)))

@@ -12,7 +12,7 @@ pub read-planned-spec : {M : Type 1} → statement M
 read-planned-spec =
     tie.close
     (tie.spec
-    (λ c. found-11 (c .before .before .before .before .pre) _ _ (c .if1 .taken))
-    (λ c κs. (reads-of (stands-at (c .before .before .before .before .pre) (c .if1 .left)), omega arith))
+    (λ c. found-11 (c .before .before .before .before .before .pre) _ _ (c .if1 .taken))
+    (λ c κs. (reads-of (stands-at (c .before .before .before .before .before .pre) (c .if1 .left)), omega arith))
     (λ c κs. search needs)
-    (λ c. found-is (c .before .before .before .before .before .before .pre) _ (c .before .before .if1 .left) _ (c .whole .ensures _ _ (omega arith) (c .before .take .ensures))))
+    (λ c. found-is (c .before .before .before .before .before .before .before .pre) _ (c .before .before .if1 .left) _ (c .whole .ensures _ _ (omega arith) (c .before .take .ensures))))

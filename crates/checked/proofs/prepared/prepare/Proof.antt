@@ -1,6 +1,7 @@
 -- `checked::prepared::prepare` is the whole check, in its order.
 -- Assumes nothing.
 use borrow.Author.Needs.{needs}
+use native.Mathlib.Omega.{arith}
 use Rattle.grammar.proofs.Tests.{tests}
 use Rattle.checked.proofs.Preparing.{prepared-length, prepared-fault, prepared-ready, prepared-cycles}
 use Rattle.checked.proofs.prepared.prepare.Statement.{statement}
@@ -15,9 +16,11 @@ prepare-spec =
     (λ c. prepared-length _ _ _ (search tests))
     (λ c. prepared-length _ _ _ (search tests))
     (λ c. prepared-length _ _ _ (search tests))
-    (λ c κs. search needs)
+    (λ c κs. let d = c .before .before .before .before .before .before .before .before .pre in (omega arith, (d .clear, d .long (omega arith))))
     (λ c. search needs)
     (λ c. search needs)
-    (λ c κs. prepared-ready _ _ (c .before .before .before .before .before .before .before .before .if1 .left) (c .before .before .before .before .before .before .before .if2 .left) (c .before .before .before .before .before .before .if3 .left) (c .before .before .before .before .before .if4 .left) (c .before .before .before .weigh-all .ensures) (c .before .enum-told .given .1))
-    (λ c. prepared-fault _ _ (c .before .before .before .before .before .before .before .before .if1 .left) (c .before .before .before .before .before .before .before .if2 .left) (c .before .before .before .before .before .before .if3 .left) (c .before .before .before .before .before .if4 .left) (c .before .before .before .weigh-all .ensures) (c .before .v .given .1))
-    (λ c. prepared-cycles _ _ (c .before .before .before .before .before .before .before .before .before .if1 .left) (c .before .before .before .before .before .before .before .before .if2 .left) (c .before .before .before .before .before .before .before .if3 .left) (c .before .before .before .before .before .before .if4 .left) (c .before .before .before .before .weigh-all .ensures) (c .before .before .enum-told .given .1) (c .judge .ensures)))
+    (λ c κs. prepared-ready _ _ (c .before .before .before .before .before .before .before .before .before .before .if1 .left) (c .before .before .before .before .before .before .before .before .before .if2 .left) (c .before .before .before .before .before .before .before .before .if3 .left) (c .before .before .before .before .before .before .before .if4 .left) (c .before .before .before .before .before .weigh-all .ensures) (c .before .enum-told .given .1))
+    (λ c. search needs)
+    (λ c. prepared-fault _ _ (c .before .before .before .before .before .before .before .before .before .before .if1 .left) (c .before .before .before .before .before .before .before .before .before .if2 .left) (c .before .before .before .before .before .before .before .before .if3 .left) (c .before .before .before .before .before .before .before .if4 .left) (c .before .before .before .before .before .weigh-all .ensures) (c .before .v .given .1))
+    (λ c. search needs)
+    (λ c. prepared-cycles _ _ (c .before .before .before .before .before .before .before .before .before .before .before .if1 .left) (c .before .before .before .before .before .before .before .before .before .before .if2 .left) (c .before .before .before .before .before .before .before .before .before .if3 .left) (c .before .before .before .before .before .before .before .before .if4 .left) (c .before .before .before .before .before .before .weigh-all .ensures) (c .before .before .enum-told .given .1) (c .judge .ensures)))

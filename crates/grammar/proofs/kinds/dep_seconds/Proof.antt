@@ -11,7 +11,7 @@ dep-seconds-spec =
     tie.close
     (tie.spec
     (λ c κs. search needs)
-    (λ c κs. let s = c .before .before .before in (s .pre .0, (s .pre .1, finite-run (s .args .plan .now) (s .args .pool .now) (s .args .at) (s .args .count) (s .pre .0) (c .before .all-finite .ensures) (c .if1 .taken))))
+    (λ c κs. let s = c .before .before .before .before in (s .pre .0, (s .pre .1, finite-run (s .args .plan .now) (s .args .pool .now) (s .args .at) (s .args .count) (s .pre .0) (c .before .all-finite .ensures) (c .if1 .taken))))
     (λ c κs. search needs)
     (λ c. seconds-finite _ _ (c .before .before .before .all-finite .ensures) (c .before .before .if1 .taken) (c .before .total-of .ensures) (c .of-measured .ensures))
     (λ c κs. search needs)

@@ -25,7 +25,7 @@ all-endless-spec =
     (λ c. omega (arith, c .before .before .before .pre .1 (c .before .before .loop .i) (omega arith)))
     (λ c. omega (arith, c .before .before .before .pre .1 (c .before .before .loop .i) (omega arith)))
     (λ c. omega (arith, c .before .before .before .pre .1 (c .before .before .loop .i) (omega arith)))
-    (λ c. omega (arith, c .before .before .before .pre .1 (c .before .before .loop .i) (omega arith)))
+    (λ c. omega (arith, c .before .before .before .before .pre .1 (c .before .before .before .loop .i) (omega arith)))
     (λ c. search endless-not)
     (λ c. omega arith)
     (λ c. omega arith)

@@ -25,7 +25,7 @@ all-finite-spec =
     (λ c. omega (arith, c .before .before .before .pre .1 (c .before .before .loop .i) (omega arith)))
     (λ c. omega (arith, c .before .before .before .pre .1 (c .before .before .loop .i) (omega arith)))
     (λ c. omega (arith, c .before .before .before .pre .1 (c .before .before .loop .i) (omega arith)))
-    (λ c. omega (arith, c .before .before .before .pre .1 (c .before .before .loop .i) (omega arith)))
+    (λ c. omega (arith, c .before .before .before .before .pre .1 (c .before .before .before .loop .i) (omega arith)))
     (λ c. search finite-not)
     (λ c. omega arith)
     (λ c. omega arith)

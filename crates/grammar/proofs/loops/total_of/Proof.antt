@@ -25,7 +25,7 @@ total-of-spec =
     (λ c. omega (arith, c .before .before .before .pre .1 .0 (c .before .before .loop .i) (omega arith)))
     (λ c. omega (arith, c .before .before .before .pre .1 .0 (c .before .before .loop .i) (omega arith)))
     (λ c. omega (arith, c .before .before .before .pre .1 .0 (c .before .before .loop .i) (omega arith)))
-    (λ c. omega (arith, c .before .before .before .pre .1 .0 (c .before .before .loop .i) (omega arith)))
+    (λ c. omega (arith, c .before .before .before .before .pre .1 .0 (c .before .before .before .loop .i) (omega arith)))
     (λ c. omega (arith, c .before .before .before .before .pre .1 .1 (c .before .before .before .loop .i) (omega arith)))
     (λ c. search sum-past)
     (λ c. omega arith)

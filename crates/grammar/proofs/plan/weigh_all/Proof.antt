@@ -8,7 +8,7 @@ use Rattle.grammar.proofs.plan.weigh_all.Statement.{statement}
 use Rattle.grammar.proofs.plan.weigh_all.Tie as tie
 
 abbrev Inv-loop : tie.InvT-loop
-Inv-loop table pool plan₀ count n₀ plan n = Weighing table pool n plan
+Inv-loop table pool plan₀ count n₀ plan n = Weighing table pool plan₀ n plan
 
 abbrev μ-loop : tie.MeasureT-loop
 μ-loop table pool plan₀ count n₀ plan n = count - n
@@ -21,6 +21,7 @@ weigh-all-spec =
     μ-loop
     (λ c. search weighing-none)
     (λ c κs. omega arith)
+    (λ c. search needs)
     (λ c. search needs)
     (λ c. search weighing-fault)
     (λ c. search needs)
@@ -38,5 +39,6 @@ weigh-all-spec =
     (λ c κs. omega arith)
     (λ c. omega arith)
     (λ c. omega arith)
-    (λ c. search weighing-more)
+    (λ c. weighing-more (c .before .before .before .before .before .before .before .before .before .before .before .before .before .loop .inv) (omega arith) (c .before .before .before .before .before .before .before .before .before .before .weigh .ensures) (search needs) (c .before .before .put-row .ensures))
+    (λ c. search needs)
     (λ c. search weighing-end))

@@ -22,10 +22,10 @@ count-row-spec =
     Inv-loop
     μ-loop
     (λ c. counting-none _ _ _ _)
-    (λ c κs. (c .before .before .before .before .pre, c .before .loop .inv .within))
+    (λ c κs. (c .before .before .before .before .before .pre, c .before .loop .inv .within))
     (λ c. search needs)
     (λ c. counting-full _ _ (c .before .before .before .before .before .before .loop .inv) (c .before .before .before .before .before .loop-test .taken) (c .before .before .before .before .item-at .ensures) (c .before .before .next .given .1) (c .if1 .taken))
-    (λ c. omega (arith, c .if1 .left, c .before .before .before .before .before .before .before .before .before .fits .room))
+    (λ c. omega (arith, c .if1 .left, c .before .before .before .before .before .before .before .before .before .before .fits .room))
     (λ c. omega (arith, stood (c .before .before .before .before .item-at .ensures) (c .before .before .next .given .1) .1, stood (c .before .before .before .before .item-at .ensures) (c .before .before .next .given .1) .2))
     (λ c. counting-more _ _ (c .before .before .before .before .before .before .loop .inv) (c .before .before .before .before .before .loop-test .taken) (c .before .before .before .before .item-at .ensures) (c .before .before .next .given .1) (c .if1 .left))
     (λ c. search needs)

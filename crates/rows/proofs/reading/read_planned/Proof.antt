@@ -13,11 +13,11 @@ pub read-planned-spec : {M : Type 1} → statement M
 read-planned-spec =
     tie.close
     (tie.spec
-    (λ c. got-11 (c .before .before .before .before .before .pre) _ _ _ (c .if1 .taken))
-    (λ c κs. stands-at (c .before .before .before .before .before .pre) (c .if1 .left))
+    (λ c. got-11 (c .before .before .before .before .before .before .pre) _ _ _ (c .if1 .taken))
+    (λ c κs. stands-at (c .before .before .before .before .before .before .pre) (c .if1 .left))
     (λ c. search needs)
-    (λ c κs. (stands-at (c .before .before .before .before .before .before .before .before .before .before .pre) (c .before .before .before .before .before .if1 .left), gathers-of (c .before .before .before .before .before .before .before .before .before .before .pre) _ _ (c .before .before .before .before .before .before .before .before .before .before .args .numbers .now) (c .before .before .before .before .before .if1 .left) (c .before .before .before .before .count-row .ensures) (c .before .before .items .given .1)))
+    (λ c κs. (stands-at (c .before .before .before .before .before .before .before .before .before .before .before .pre) (c .before .before .before .before .before .if1 .left), gathers-of (c .before .before .before .before .before .before .before .before .before .before .before .pre) _ _ (c .before .before .before .before .before .before .before .before .before .before .before .args .numbers .now) (c .before .before .before .before .before .if1 .left) (c .before .before .before .before .count-row .ensures) (c .before .before .items .given .1)))
     (λ c. search needs)
     (λ c. ap length (c .before .before .store-row .ensures) ∙ length-over _ _)
-    (λ c. got-numbers (c .before .before .before .before .before .before .before .before .before .before .before .before .before .pre) _ _ _ (c .before .before .before .before .before .before .before .before .if1 .left) (c .before .before .before .before .before .before .before .count-row .ensures) (c .before .before .before .before .before .items .given .1) (c .before .before .store-row .ensures))
-    (λ c. got-not (c .before .before .before .before .before .before .before .before .before .pre) _ _ _ (c .before .before .before .before .if1 .left) (c .before .before .before .count-row .ensures) (c .before .r .given .1)))
+    (λ c. got-numbers (c .before .before .before .before .before .before .before .before .before .before .before .before .before .before .pre) _ _ _ (c .before .before .before .before .before .before .before .before .if1 .left) (c .before .before .before .before .before .before .before .count-row .ensures) (c .before .before .before .before .before .items .given .1) (c .before .before .store-row .ensures))
+    (λ c. got-not (c .before .before .before .before .before .before .before .before .before .before .pre) _ _ _ (c .before .before .before .before .if1 .left) (c .before .before .before .count-row .ensures) (c .before .r .given .1)))

@@ -37,20 +37,20 @@ module _ (t : ℕ) where
   Visit = lts.After-step-of calls at-t fill.Post
 
   -- what the arm shows that found s
-  arm : (c : Visit) {s : Step} → c .step-of .result ≡ s → let a = c .before .before .before .before .before .args in
+  arm : (c : Visit) {s : Step} → c .step-of .result ≡ s → let a = c .before .before .before .before .before .before .args in
       walk (planned (a .plan .now) (a .pool .now)) (a .left) (a .i) (a .n) ≡ shown (walk (planned (a .plan .now) (a .pool .now)) (a .left - 1)) s
   arm c e = walk-shows _ _ _ (c .before .before .if1 .left) (c .step-of .ensures) e
 
-  next : (c : Visit) {s : Step} → c .step-of .result ≡ s → let a = c .before .before .before .before .before .args in Next (a .plan .now) (a .pool .now) (a .n) s
-  next c e = next-of (c .before .before .before .before .before .pre .1 .0) (c .step-of .ensures) e
+  next : (c : Visit) {s : Step} → c .step-of .result ≡ s → let a = c .before .before .before .before .before .before .args in Next (a .plan .now) (a .pool .now) (a .n) s
+  next c e = next-of (c .before .before .before .before .before .before .pre .1 .0) (c .step-of .ensures) e
 
   -- a part's call: the depth falls, the part may be visited, and its number has room to grow
-  go : (c : Visit) {q m : ℕ} → let a = c .before .before .before .before .before .args in Next1 (a .plan .now) (a .pool .now) (a .n) q m
+  go : (c : Visit) {q m : ℕ} → let a = c .before .before .before .before .before .before .args in Next1 (a .plan .now) (a .pool .now) (a .n) q m
       → (a .left - 1 < t) × (Visits (a .plan .now) (a .pool .now) q m × ((m + (a .left - 1) ≤ 2 ^ 62 + 200) × (a .left - 1 ≤ 200)))
-  go c h = (omega (arith, c .before .before .before .before .before .pre .0), (h .visits, (omega (arith, h .near, c .before .before .before .before .before .pre .1 .1 .0), omega (arith, c .before .before .before .before .before .pre .1 .1 .1))))
+  go c h = (omega (arith, c .before .before .before .before .before .before .pre .0), (h .visits, (omega (arith, h .near, c .before .before .before .before .before .before .pre .1 .1 .0), omega (arith, c .before .before .before .before .before .before .pre .1 .1 .1))))
 
   -- the part of a shift is one cell
-  one-of : (c : Visit) {q m k : ℕ} → c .step-of .result ≡ Plus q m k → let a = c .before .before .before .before .before .args in
+  one-of : (c : Visit) {q m k : ℕ} → c .step-of .result ≡ Plus q m k → let a = c .before .before .before .before .before .before .args in
       One (m + (a .left - 1) * 2 ^ 32) (walk (planned (a .plan .now) (a .pool .now)) (a .left - 1) q m)
   one-of c e = let (h, k, s) = next c e in single-one _ _ (h .visits .walks .good) _ _ _ (goes-of (h .visits)) s
 
@@ -80,7 +80,7 @@ module _ (t : ℕ) where
       let v = c .before .before .before .before .before .before .before .before .before in
       let e = c .before .before .before .before .before .before .before .p2 .given .1 in
       let (h, k, s) = next v e in
-      let a = v .before .before .before .before .before in
+      let a = v .before .before .before .before .before .before in
       omega (arith, plus-small (one-of v e) (c .before .before .before .before .fill2 .ensures) (c .before .if3 .left), k, h .near, a .pre .1 .1 .0, a .pre .1 .1 .1)
 
   tag-returns : lts.Need-returns-7 calls at-t fill.Post
@@ -95,7 +95,7 @@ pub +fill-spec : {M : Type 1} → statement M
 +fill-spec = close μ-fill λ t. lts.spec (calls t) (at-t t) fill.Post
     (deep-returns t)
     (λ c. full _ _ (c .if2 .taken))
-    (λ c κs. (c .before .before .before .before .pre .1 .0, omega (arith, c .before .before .before .before .pre .1 .1)))
+    (λ c κs. (c .before .before .before .before .before .pre .1 .0, omega (arith, c .before .before .before .before .before .pre .1 .1)))
     -- Cell
     (λ c. search needs)
     (λ c. search needs)

@@ -25,7 +25,7 @@ in-turn-spec =
     (λ c. omega (arith, c .before .before .before .pre .1 .0 (c .before .before .loop .k) (omega arith)))
     (λ c. omega (arith, c .before .before .before .pre .1 .0 (c .before .before .loop .k) (omega arith)))
     (λ c. omega (arith, c .before .before .before .pre .1 .0 (c .before .before .loop .k) (omega arith)))
-    (λ c. omega (arith, c .before .before .before .pre .1 .0 (c .before .before .loop .k) (omega arith)))
+    (λ c. omega (arith, c .before .before .before .before .pre .1 .0 (c .before .before .before .loop .k) (omega arith)))
     (λ c. search turning-found)
     (λ c. omega arith)
     (λ c. omega arith)

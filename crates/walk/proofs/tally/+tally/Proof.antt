@@ -34,17 +34,17 @@ module _ (t : ℕ) where
   Visit = lts.After-step-of calls at-t tally.Post
 
   -- what the arm shows that found s
-  arm : (c : Visit) {s : Step} → c .step-of .result ≡ s → let a = c .before .before .before .args in
+  arm : (c : Visit) {s : Step} → c .step-of .result ≡ s → let a = c .before .before .before .before .args in
       walk (planned (a .plan .now) (a .pool .now)) (a .left) (a .i) (a .n) ≡ shown (walk (planned (a .plan .now) (a .pool .now)) (a .left - 1)) s
   arm c e = walk-shows _ _ _ (c .before .if1 .left) (c .step-of .ensures) e
 
-  next : (c : Visit) {s : Step} → c .step-of .result ≡ s → let a = c .before .before .before .args in Next (a .plan .now) (a .pool .now) (a .n) s
-  next c e = next-of (c .before .before .before .pre .1 .0) (c .step-of .ensures) e
+  next : (c : Visit) {s : Step} → c .step-of .result ≡ s → let a = c .before .before .before .before .args in Next (a .plan .now) (a .pool .now) (a .n) s
+  next c e = next-of (c .before .before .before .before .pre .1 .0) (c .step-of .ensures) e
 
   -- a part's call: the depth falls, the part may be visited, and its number has room to grow
-  go : (c : Visit) {q m : ℕ} → let a = c .before .before .before .args in Next1 (a .plan .now) (a .pool .now) (a .n) q m
+  go : (c : Visit) {q m : ℕ} → let a = c .before .before .before .before .args in Next1 (a .plan .now) (a .pool .now) (a .n) q m
       → (a .left - 1 < t) × (Visits (a .plan .now) (a .pool .now) q m × (m + (a .left - 1) ≤ 2 ^ 62 + 200))
-  go c h = (omega (arith, c .before .before .before .pre .0), (h .visits, omega (arith, h .near, c .before .before .before .pre .1 .1)))
+  go c h = (omega (arith, c .before .before .before .before .pre .0), (h .visits, omega (arith, h .near, c .before .before .before .before .pre .1 .1)))
 
   deep-returns : lts.Need-returns calls at-t tally.Post
   unfolding tallied
@@ -89,7 +89,7 @@ module _ (t : ℕ) where
 pub +tally-spec : {M : Type 1} → statement M
 +tally-spec = close μ-tally λ t. lts.spec (calls t) (at-t t) tally.Post
     (deep-returns t)
-    (λ c κs. (c .before .before .pre .1 .0, omega (arith, c .before .before .pre .1 .1)))
+    (λ c κs. (c .before .before .before .pre .1 .0, omega (arith, c .before .before .before .pre .1 .1)))
     -- Cell
     (λ c. search needs)
     (cell-full t)
