@@ -19,8 +19,8 @@ use Rattle.grammar.proofs.Tests.{and-left, and-right}
 use Rattle.walk.specs.Grammar.{Grammar}
 use Rattle.walk.specs.Walk.{Event, cell, deep, walk, cells, depth}
 use Rattle.walk.specs.Room.{tallied}
-use Rattle.walk.specs.declared.tally.RoomLeft.{RoomLeft}
-use Rattle.walk.specs.declared.tally.RoomLeft.the-variants.{Left, TooDeep, NoRoom}
+use Rattle.walk.specs.declared.lay.RoomLeft.{RoomLeft}
+use Rattle.walk.specs.declared.lay.RoomLeft.the-variants.{Left, TooDeep, NoRoom}
 use Rattle.checked.specs.Fits.{asked, Asked, roomFor, outcome, fitted}
 use Rattle.checked.specs.declared.fits.Fit.the-variants.{Cells, Not}
 use Rattle.checked.proofs.Fitting.{tally-count}

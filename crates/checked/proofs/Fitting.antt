@@ -19,8 +19,8 @@ use Rattle.walk.specs.Grammar.{planned}
 use Rattle.walk.specs.Walk.{Event, cell, deep, walk, cells, depth}
 use Rattle.walk.specs.Room.{tallied}
 use Rattle.walk.specs.Good.{Visits}
-use Rattle.walk.specs.declared.tally.RoomLeft.{RoomLeft}
-use Rattle.walk.specs.declared.tally.RoomLeft.the-variants.{Left, TooDeep as Deep, NoRoom as Full}
+use Rattle.walk.specs.declared.lay.RoomLeft.{RoomLeft}
+use Rattle.walk.specs.declared.lay.RoomLeft.the-variants.{Left, TooDeep as Deep, NoRoom as Full}
 use Rattle.checked.specs.Prepared.{Stands}
 use Rattle.checked.specs.Fits.{asked, roomFor, outcome, fitted}
 use Rattle.checked.specs.declared.fits.Fit.the-variants.{Cells, Not}

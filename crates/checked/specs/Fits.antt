@@ -12,8 +12,8 @@ use Rattle.grammar.specs.declared.refusal.Refusal.the-variants.{NoSuchNumber, T
 use Rattle.walk.specs.Grammar.{Grammar}
 use Rattle.walk.specs.Walk.{walk, depth}
 use Rattle.walk.specs.Room.{tallied, most}
-use Rattle.walk.specs.declared.tally.RoomLeft.{RoomLeft}
-use Rattle.walk.specs.declared.tally.RoomLeft.the-variants.{Left, TooDeep as Deep, NoRoom as Full}
+use Rattle.walk.specs.declared.lay.RoomLeft.{RoomLeft}
+use Rattle.walk.specs.declared.lay.RoomLeft.the-variants.{Left, TooDeep as Deep, NoRoom as Full}
 use Rattle.checked.specs.declared.fits.Fit.{Fit}
 use Rattle.checked.specs.declared.fits.Fit.the-variants.{Cells, Not}
 

@@ -10,6 +10,8 @@ pub mod Nodes
 pub mod Visits
 pub mod Parts
 pub mod Fills
+pub mod Follows
+pub mod Lays
 pub mod Walks
 pub mod Next
 pub mod Looks

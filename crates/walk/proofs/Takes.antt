@@ -41,7 +41,7 @@ pub taken-deep : (g : Grammar) (i off q : ℕ) (cs : List ℕ) {d : ℕ} → d �
 unfolding taken
 taken-deep g i off q cs e = rw e
 
-taken-by : (g : Grammar) (d i off q : ℕ) (cs : List ℕ) → (d ≡ 0 → ⊥) → taken g d i off q cs ≡ follow (g .size) (taken g (d - 1)) (ahead (g .size) (g .words) (g .node i) off q cs)
+pub taken-by : (g : Grammar) (d i off q : ℕ) (cs : List ℕ) → (d ≡ 0 → ⊥) → taken g d i off q cs ≡ follow (g .size) (taken g (d - 1)) (ahead (g .size) (g .words) (g .node i) off q cs)
 unfolding taken
 taken-by g zero i off q cs f = absurd (f refl)
 taken-by g (suc d) i off q cs f = rw sub-one

@@ -18,8 +18,8 @@ use Rattle.walk.specs.Room.{tallied}
 use Rattle.walk.specs.Filled.{over, Filled}
 use Rattle.walk.specs.Good.{Single, Fits, Good}
 use Rattle.walk.specs.declared.step.Step.{Step}
-use Rattle.walk.specs.declared.tally.RoomLeft.{RoomLeft}
-use Rattle.walk.specs.declared.tally.RoomLeft.the-variants.{Left, TooDeep, NoRoom}
+use Rattle.walk.specs.declared.lay.RoomLeft.{RoomLeft}
+use Rattle.walk.specs.declared.lay.RoomLeft.the-variants.{Left, TooDeep, NoRoom}
 use Rattle.walk.proofs.Parts.{Goes}
 
 walk-at : (g : Grammar) (d i n : ℕ) → (d ≡ 0 → ⊥) → walk g d i n ≡ shown (walk g (d - 1)) (visit g i n)

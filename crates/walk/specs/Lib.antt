@@ -4,6 +4,8 @@ pub mod Visit
 pub mod Walk
 pub mod Room
 pub mod Filled
+pub mod Laid
+pub mod Follow
 pub mod Good
 pub mod Reading
 pub mod Got

@@ -9,8 +9,8 @@ use Prim.Native.Nat.{ℕ, zero, suc, _≤_}
 use lib.ListN.{length}
 use Rattle.walk.specs.Grammar.{Grammar}
 use Rattle.walk.specs.Walk.{Event, cell, deep, walk, depth}
-use Rattle.walk.specs.declared.tally.RoomLeft.{RoomLeft}
-use Rattle.walk.specs.declared.tally.RoomLeft.the-variants.{Left, TooDeep, NoRoom}
+use Rattle.walk.specs.declared.lay.RoomLeft.{RoomLeft}
+use Rattle.walk.specs.declared.lay.RoomLeft.the-variants.{Left, TooDeep, NoRoom}
 
 unfoldable pub tallied : ℕ → List Event → RoomLeft
 tallied room [] = Left room

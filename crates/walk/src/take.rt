@@ -5,6 +5,7 @@ ghost use Rattle.walk.specs.Grammar.{planned};
 ghost use Rattle.walk.specs.Reading.{taken};
 ghost use Rattle.walk.specs.Got.{Took};
 ghost use Rattle.walk.specs.Look.{Reading};
+use super::follow::follow;
 use super::joins::depended;
 use super::joins::paired;
 use super::look::Next;
@@ -32,29 +33,33 @@ pub fn take(
     requires { ⌜ off + left * 2 ^ 32 ≤ 200 * 2 ^ 32 ⌝ }
     ensures { λ r. ⌜ Took (2 ^ 62 + (201 - left)) (taken (planned (now (plan .entry)) (now (pool .entry))) left i off (stop - at) (drop at (now (cells .entry)))) (now (cells .entry)) stop r ⌝ }
 {
-    if left == 0 {
+    let spot = follow(plan, i, left);
+    if spot.left == 0 {
         return Got::Wrong(Refusal::TooDeep);
     }
-    match next_of(plan, pool, i, off, cells, at, stop) {
+    match next_of(plan, pool, spot.node, off, cells, at, stop) {
         Next::Ends(n, next) => got_of(cap(n), next),
         Next::Fails(r) => Got::Wrong(r),
         Next::On(how, p, more, next) => {
-            grown(how, take(plan, pool, p, left - 1, more, cells, next, stop))
+            grown(
+                how,
+                take(plan, pool, p, spot.left - 1, more, cells, next, stop),
+            )
         }
-        Next::Both(a, b, next) => match take(plan, pool, a, left - 1, 0, cells, next, stop) {
+        Next::Both(a, b, next) => match take(plan, pool, a, spot.left - 1, 0, cells, next, stop) {
             Got::Number(x, then) => {
                 paired(
                     plan,
                     a,
                     b,
                     x,
-                    take(plan, pool, b, left - 1, 0, cells, then, stop),
+                    take(plan, pool, b, spot.left - 1, 0, cells, then, stop),
                 )
             }
-            Got::Big(then) => bigger(take(plan, pool, b, left - 1, 0, cells, then, stop)),
+            Got::Big(then) => bigger(take(plan, pool, b, spot.left - 1, 0, cells, then, stop)),
             Got::Wrong(r) => Got::Wrong(r),
         },
-        Next::Chosen(a, b, next) => match take(plan, pool, a, left - 1, 0, cells, next, stop) {
+        Next::Chosen(a, b, next) => match take(plan, pool, a, spot.left - 1, 0, cells, next, stop) {
             Got::Number(x, then) => {
                 let c = pool[b + (x as usize)] as usize;
                 depended(
@@ -63,7 +68,7 @@ pub fn take(
                     a,
                     b,
                     x,
-                    take(plan, pool, c, left - 1, 0, cells, then, stop),
+                    take(plan, pool, c, spot.left - 1, 0, cells, then, stop),
                 )
             }
             Got::Big(then) => Got::Big(then),

@@ -1,0 +1,130 @@
+-- A writing walk over a room and a buffer, put together from those of its parts.
+--   tally-count             the cells that a room has let through
+--   laid-deep, laid-full    refused: what the buffer holds is not said
+--   put-.., lift-..         one cell, and k added to it
+--   laid-plus, laid-two     a shift's part; one walk and then another over what is left
+-- Assumes nothing.
+use mathlib.Core.Path.{_≡_, refl, sym, ap, _∙_}
+use mathlib.Core.List.{List, [], _∷_, _++_, append-nil}
+use Prim.Native.Nat.{ℕ, zero, suc, _+_, _-_, _≤_, _<_, min}
+use native.Mathlib.Nat.{not-suc-le-zero}
+use native.Mathlib.Omega.{arith}
+use lib.ListN.{length, getD, take, drop, set, length-append, length-drop, length-take}
+use Rattle.walk.specs.Walk.{Event, cell, deep, raised, cells}
+use Rattle.walk.specs.Room.{tallied}
+use Rattle.walk.specs.Filled.{over}
+use Rattle.walk.specs.Laid.{lifted, Laid}
+use Rattle.walk.specs.declared.lay.RoomLeft.{RoomLeft}
+use Rattle.walk.specs.declared.lay.RoomLeft.the-variants.{Left, TooDeep, NoRoom}
+use Rattle.walk.proofs.Fills.{length-over, over-append, part-old, part-rest}
+use Rattle.walk.proofs.Walks.{One, too-deep, one-cell, tallied-raised, tallied-full, tallied-one, two-left, cells-append}
+
+-- ---- the cells that a room has let through
+pub tally-count : (room : ℕ) (es : List Event) {rest : ℕ} → tallied room es ≡ Left rest → length (cells es) + rest ≡ room
+unfolding tallied cells
+tally-count room [] {rest} e = let q : rest ≡ room = cc in omega arith
+tally-count room (deep ∷ es) e = let z : _≡_ {A = ℕ} 0 1 = cc in absurd (omega arith)
+tally-count zero (cell c ∷ es) e = let z : _≡_ {A = ℕ} 0 1 = cc in absurd (omega arith)
+tally-count (suc room) (cell c ∷ es) e = omega (arith, tally-count room es e)
+
+pub rest-within : {room : ℕ} {es : List Event} {old last : List ℕ} {r : RoomLeft} → Laid room es old last r → {rest : ℕ} → r ≡ Left rest → rest ≤ room
+rest-within {room} {es} h q = omega (arith, tally-count room es (sym (h .is) ∙ q))
+
+-- ---- refused
+module _ {room : ℕ} {es : List Event} {old last : List ℕ} (same : length last ≡ length old) where
+  pub laid-deep : TooDeep ≡ tallied room es → Laid room es old last TooDeep
+  laid-deep e = record { is = e; long = same; holds = λ rest q. let z : _≡_ {A = ℕ} 0 1 = cc in absurd (omega arith) }
+
+  pub laid-full : NoRoom ≡ tallied room es → Laid room es old last NoRoom
+  laid-full e = record { is = e; long = same; holds = λ rest q. let z : _≡_ {A = ℕ} 0 1 = cc in absurd (omega arith) }
+
+-- ---- one cell
+module _ (c : ℕ) {room : ℕ} where
+  pub put-full : {old : List ℕ} → room ≡ 0 → Laid room (cell c ∷ []) old old NoRoom
+  put-full e = laid-full refl (sym (tallied-full room c [] e))
+
+  module _ (f : room ≡ 0 → ⊥) where
+    pub put-one : (old : List ℕ) → 0 < length old → Laid room (cell c ∷ []) old (set old 0 c) (Left (room - 1))
+    unfolding cells over
+    put-one [] l = absurd (not-suc-le-zero l)
+    put-one (y ∷ old) l = record { is = tallied-one room c f; long = refl; holds = λ rest q. refl }
+
+    pub put-none : (old : List ℕ) → length old ≤ 0 → Laid room (cell c ∷ []) old old (Left (room - 1))
+    unfolding cells over
+    put-none [] l = record { is = tallied-one room c f; long = refl; holds = λ rest q. refl }
+    put-none (y ∷ old) l = absurd (omega arith)
+
+module _ (k : ℕ) where
+  pub lift-one : (old : List ℕ) → 0 < length old → set old 0 (getD old 0 0 + k) ≡ lifted k old
+  lift-one [] l = absurd (not-suc-le-zero l)
+  lift-one (y ∷ old) l = refl
+
+  pub lift-none : (old : List ℕ) → length old ≤ 0 → old ≡ lifted k old
+  lift-none [] l = refl
+  lift-none (y ∷ old) l = absurd (omega arith)
+
+  lifted-long : (cs : List ℕ) → length (lifted k cs) ≡ length cs
+  lifted-long [] = refl
+  lifted-long (c ∷ cs) = refl
+
+  lifted-over : (c : ℕ) (old : List ℕ) → lifted k (over (c ∷ []) old) ≡ over ((c + k) ∷ []) old
+  unfolding over
+  lifted-over c [] = refl
+  lifted-over c (y ∷ old) = refl
+
+over-first : (c : ℕ) (old : List ℕ) {bound : ℕ} → c ≤ bound → getD (over (c ∷ []) old) 0 0 ≤ bound
+unfolding over
+over-first c [] l = omega arith
+over-first c (y ∷ old) l = l
+
+-- ---- a part of one cell, and k added to it
+module _ {bound room : ℕ} {es : List Event} {old mid : List ℕ} {r : RoomLeft} (o : One bound es) (h : Laid room es old mid r) {rest : ℕ} (q : r ≡ Left rest) where
+  one-left : (c : ℕ) × (c ≤ bound) × (es ≡ cell c ∷ [])
+  unfolding tallied
+  one-left = by o (sym (h .is) ∙ q)
+    where
+      by : {xs : List Event} → One bound xs → tallied room xs ≡ Left rest → (c : ℕ) × (c ≤ bound) × (xs ≡ cell c ∷ [])
+      by too-deep e = let z : _≡_ {A = ℕ} 0 1 = cc in absurd (omega arith)
+      by (one-cell c l) e = (c, l, refl)
+
+  pub lift-small : getD mid 0 0 ≤ bound
+  unfolding cells
+  lift-small =
+      let (c, l, e) = one-left in
+      let m : mid ≡ over (c ∷ []) old = rw e at (h .holds rest q) in
+      rw m (over-first c old l)
+
+  pub laid-plus : (k : ℕ) → Laid room (raised k es) old (lifted k mid) (Left rest)
+  unfolding cells raised
+  laid-plus k =
+      let (c, l, e) = one-left in
+      record {
+        is = sym (tallied-raised room k es ∙ (sym (h .is) ∙ q));
+        long = lifted-long k mid ∙ h .long;
+        holds = λ _ _. ap (lifted k) (h .holds rest q ∙ ap (λ (xs : List Event). over (cells xs) old) e) ∙ (lifted-over k c old ∙ sym (ap (λ (xs : List Event). over (cells (raised k xs)) old) e));
+      }
+
+-- ---- one walk, and then another over what is left
+module _ {room rest : ℕ} {xs ys : List Event} {old mid part last : List ℕ} {a b : RoomLeft} (h : Laid room xs old mid a) (q : a ≡ Left rest)
+    (g : Laid rest ys part last b) {k : ℕ} (e : k ≡ min (length (cells xs)) (length mid)) (p : part ≡ take (length mid - k) (drop k mid)) where
+  part-is : part ≡ drop k mid
+  part-is = p ∙ part-old k mid
+
+  abbrev together : List ℕ
+  together = take k mid ++ (last ++ drop (length mid - k) (drop k mid))
+
+  two-long : length together ≡ length old
+  two-long = omega (arith, h .long, g .long, ap length part-is, length-drop k mid, length-take k mid, length-append (take k mid) (last ++ drop (length mid - k) (drop k mid)), length-append last (drop (length mid - k) (drop k mid)), ap length (part-rest k mid))
+
+  two-holds : {m : ℕ} → b ≡ Left m → together ≡ over (cells (xs ++ ys)) old
+  two-holds {m} f =
+      let s : k ≡ min (length (cells xs)) (length old) = omega (arith, e, h .long) in
+      cc (s, h .holds rest q, g .holds m f, part-is, part-rest k mid, append-nil last, over-append (cells xs) (cells ys) old, cells-append xs ys)
+
+  pub laid-two : Laid room (xs ++ ys) old together b
+  laid-two = record { is = two-left room xs ys (h .is) q (g .is); long = two-long; holds = λ m f. two-holds f }
+
+-- the place after the first walk's cells, from what is left of the room
+pub reached : {room rest k : ℕ} (long : ℕ) {xs : List Event} {old mid : List ℕ} {a : RoomLeft} → Laid room xs old mid a → a ≡ Left rest → k ≡ min (room - rest) long
+    → k ≡ min (length (cells xs)) long
+reached {room} {rest} {k} long {xs} h q e = let c = tally-count room xs (sym (h .is) ∙ q) in let s : room - rest ≡ length (cells xs) = omega arith in rw s at e

@@ -1,0 +1,188 @@
+-- `walk::lay::lay` is the writing walk over a room and a buffer. The measure is the depth left. Each arm's `returns` is put together by the laws of `Lays`.
+-- Assumes nothing.
+use mathlib.Core.Path.{_≡_, refl, sym, ap, _∙_}
+use Prim.Native.Nat.{ℕ, _+_, _*_, _-_, _^_, _≤_, _<_}
+use native.Mathlib.Omega.{arith}
+use borrow.Author.Needs.{needs}
+use borrow.Fn.Kinds.{In}
+use borrow.Fn.PlainCycle.{Measures, is, falls, and}
+use Rattle.walk.specs.Grammar.{planned}
+use Rattle.walk.specs.Walk.{shown, walk, cells}
+use Rattle.walk.specs.Room.{tallied}
+use Rattle.walk.specs.Good.{Visits}
+use Rattle.walk.specs.declared.step.Step.{Step}
+use Rattle.walk.specs.declared.step.Step.the-variants.{Plus}
+use Rattle.walk.proofs.Walks.{walk-shows, walk-deep, tallied-raised, One, single-one, two-deep, two-full}
+use Rattle.walk.proofs.Lays.{rest-within, laid-deep, laid-full, lift-small, laid-plus, laid-two, reached}
+use Rattle.walk.proofs.Next.{Next, Next1, next-of, goes-of}
+use Rattle.walk.proofs.lay.lay.Reads as lay
+use Rattle.walk.proofs.lay.lay.Kinds as lay-kinds
+use Rattle.walk.proofs.lay.+lay.Lts-lay as lts
+use Rattle.walk.proofs.follow.follow.Reads as follow
+use Rattle.walk.proofs.lay.lift.Reads as lift
+use Rattle.walk.proofs.lay.place.Reads as place
+use Rattle.walk.proofs.lay.put.Reads as put
+use Rattle.walk.proofs.step.step_of.Reads as step-of
+use Rattle.walk.proofs.lay.+lay.{statement}
+use Rattle.walk.proofs.lay.+lay.Tie.{close}
+
+abbrev μ-lay : Measures 3 lay-kinds.ps ℕ
+μ-lay κs a = a .1 .1 .1 .1 .0
+
+module _ (t : ℕ) where
+  abbrev at-t : In 3 lay-kinds.ps
+  at-t = and 3 lay-kinds.ps (is 3 lay-kinds.ps μ-lay t) lay.Pre
+
+  abbrev calls : lts.Claims
+  calls = (
+    follow.Asked,
+    follow.Learnt,
+    step-of.Asked,
+    step-of.Learnt,
+    put.Asked,
+    put.Learnt,
+    and 3 lay-kinds.ps (falls 3 lay-kinds.ps _<_ μ-lay t) lay.Pre,
+    lay.Post,
+    lift.Asked,
+    lift.Learnt,
+    place.Asked,
+    place.Learnt,
+  )
+
+  abbrev Visit : Type 0
+  Visit = lts.After-step-of calls at-t lay.Post
+
+  -- what the arm shows that found s
+  arm : (c : Visit) {s : Step} → c .step-of .result ≡ s → let a = c .before .before .before .before .before .before .before .args in let f = c .before .before .before .follow .result in
+      walk (planned (a .plan .now) (a .pool .now)) (a .left) (a .i) (a .n) ≡ shown (walk (planned (a .plan .now) (a .pool .now)) (f .left - 1)) s
+  arm c e = c .before .before .before .follow .ensures .shows _ _ (c .before .before .before .before .before .before .before .pre .1 .0) ∙ walk-shows _ _ _ (c .before .if1 .left) (c .step-of .ensures) e
+
+  next : (c : Visit) {s : Step} → c .step-of .result ≡ s → let a = c .before .before .before .before .before .before .before .args in Next (a .plan .now) (a .pool .now) (a .n) s
+  next c e = next-of (c .before .before .before .follow .ensures .visits _ _ (c .before .before .before .before .before .before .before .pre .1 .0)) (c .step-of .ensures) e
+
+  -- a part's call: the depth falls, the part may be visited, and its number has room to grow
+  go : (c : Visit) {q m : ℕ} → let a = c .before .before .before .before .before .before .before .args in let f = c .before .before .before .follow .result in Next1 (a .plan .now) (a .pool .now) (a .n) q m
+      → (f .left - 1 < t) × (Visits (a .plan .now) (a .pool .now) q m × ((m + (f .left - 1) ≤ 2 ^ 62 + 200) × (f .left - 1 ≤ 200)))
+  go c h =
+      let l = c .before .before .before .follow .ensures .le in
+      let f = c .before .if1 .left in
+      (omega (arith, c .before .before .before .before .before .before .before .pre .0), (h .visits, (omega (arith, h .near, c .before .before .before .before .before .before .before .pre .1 .1 .0), omega (arith, c .before .before .before .before .before .before .before .pre .1 .1 .1))))
+
+  -- the part of a shift is one cell
+  one-of : (c : Visit) {q m k : ℕ} → c .step-of .result ≡ Plus q m k → let a = c .before .before .before .before .before .before .before .args in let f = c .before .before .before .follow .result in
+      One (m + (f .left - 1) * 2 ^ 32) (walk (planned (a .plan .now) (a .pool .now)) (f .left - 1) q m)
+  one-of c e = let (h, k, s) = next c e in single-one _ _ (h .visits .walks .good) _ _ _ (goes-of (h .visits)) s
+
+  deep-returns : lts.Need-returns calls at-t lay.Post
+  unfolding tallied
+  deep-returns c = laid-deep refl (sym (ap (tallied (c .before .before .before .before .before .before .args .room)) (c .before .before .follow .ensures .shows _ _ (c .before .before .before .before .before .before .pre .1 .0) ∙ walk-deep _ _ _ (c .if1 .taken))))
+
+  cell-returns : lts.Need-returns-2 calls at-t lay.Post
+  unfolding shown
+  cell-returns c = rw (arm (c .before .before .before .before .before .before .before) (c .before .before .before .before .before .c .given .1)) (c .before .before .put .ensures)
+
+  pass-returns : lts.Need-returns-3 calls at-t lay.Post
+  unfolding shown
+  pass-returns c = rw (arm (c .before .before .before .before .before .before .before .before) (c .before .before .before .before .before .before .p .given .1)) (c .before .before .lay .ensures)
+
+  plus-returns : lts.Need-returns-4 calls at-t lay.Post
+  unfolding shown
+  plus-returns c = rw (arm (c .before .before .before .before .before .before .before .before .before .before .before .before .before .before .before) (c .before .before .before .before .before .before .before .before .before .before .before .before .before .p2 .given .1), c .before .before .lift .ensures) (laid-plus (one-of (c .before .before .before .before .before .before .before .before .before .before .before .before .before .before .before) (c .before .before .before .before .before .before .before .before .before .before .before .before .before .p2 .given .1)) (c .before .before .before .before .before .before .before .before .before .lay2 .ensures) (c .before .before .before .before .before .rest .given .1) _)
+
+  plus-deep : lts.Need-returns-5 calls at-t lay.Post
+  unfolding shown
+  plus-deep c = rw (arm (c .before .before .before .before .before .before .before .before .before .before) (c .before .before .before .before .before .before .before .before .p2 .given .1)) (laid-deep (c .before .before .before .before .lay2 .ensures .long) (sym (c .enum-told .given .1) ∙ (c .before .before .before .before .lay2 .ensures .is ∙ sym (tallied-raised _ _ _))))
+
+  plus-full : lts.Need-returns-6 calls at-t lay.Post
+  unfolding shown
+  plus-full c = rw (arm (c .before .before .before .before .before .before .before .before .before .before) (c .before .before .before .before .before .before .before .before .p2 .given .1)) (laid-full (c .before .before .before .before .lay2 .ensures .long) (sym (c .enum-told2 .given .1) ∙ (c .before .before .before .before .lay2 .ensures .is ∙ sym (tallied-raised _ _ _))))
+
+  tag-returns : lts.Need-returns-7 calls at-t lay.Post
+  unfolding shown cells
+  tag-returns c = rw (arm (c .before .before .before .before .before .before .before .before .before .before .before .before .before .before .before .before) (c .before .before .before .before .before .before .before .before .before .before .before .before .before .before .t .given .1)) (laid-two (c .before .before .before .before .before .before .before .before .before .before .before .put2 .ensures) (c .before .before .before .before .before .before .before .rest2 .given .1) (c .before .before .lay3 .ensures) (c .before .before .before .before .before .place .ensures) refl)
+
+  tag-deep : lts.Need-returns-8 calls at-t lay.Post
+  unfolding shown
+  tag-deep c = rw (arm (c .before .before .before .before .before .before .before .before .before) (c .before .before .before .before .before .before .before .t .given .1)) (laid-deep (c .before .before .before .before .put2 .ensures .long) (two-deep _ _ _ (c .before .before .before .before .put2 .ensures .is) (c .enum-told3 .given .1)))
+
+  tag-full : lts.Need-returns-9 calls at-t lay.Post
+  unfolding shown
+  tag-full c = rw (arm (c .before .before .before .before .before .before .before .before .before) (c .before .before .before .before .before .before .before .t .given .1)) (laid-full (c .before .before .before .before .put2 .ensures .long) (two-full _ _ _ (c .before .before .before .before .put2 .ensures .is) (c .enum-told4 .given .1)))
+
+  two-returns : lts.Need-returns-10 calls at-t lay.Post
+  unfolding shown
+  two-returns c = rw (arm (c .before .before .before .before .before .before .before .before .before .before .before .before .before .before .before .before .before) (c .before .before .before .before .before .before .before .before .before .before .before .before .before .before .before .p3 .given .1)) (laid-two (c .before .before .before .before .before .before .before .before .before .before .before .lay4 .ensures) (c .before .before .before .before .before .before .before .rest3 .given .1) (c .before .before .lay5 .ensures) (reached _ (c .before .before .before .before .before .before .before .before .before .before .before .lay4 .ensures) (c .before .before .before .before .before .before .before .rest3 .given .1) (c .before .before .before .before .before .place2 .ensures)) refl)
+
+  two-too-deep : lts.Need-returns-11 calls at-t lay.Post
+  unfolding shown
+  two-too-deep c = rw (arm (c .before .before .before .before .before .before .before .before .before .before) (c .before .before .before .before .before .before .before .before .p3 .given .1)) (laid-deep (c .before .before .before .before .lay4 .ensures .long) (two-deep _ _ _ (c .before .before .before .before .lay4 .ensures .is) (c .enum-told5 .given .1)))
+
+  two-no-room : lts.Need-returns-12 calls at-t lay.Post
+  unfolding shown
+  two-no-room c = rw (arm (c .before .before .before .before .before .before .before .before .before .before) (c .before .before .before .before .before .before .before .before .p3 .given .1)) (laid-full (c .before .before .before .before .lay4 .ensures .long) (two-full _ _ _ (c .before .before .before .before .lay4 .ensures .is) (c .enum-told6 .given .1)))
+
+pub +lay-spec : {M : Type 1} → statement M
++lay-spec = close μ-lay λ t. lts.spec (calls t) (at-t t) lay.Post
+    (λ c κs. record { pool = c .before .before .before .args .pool .now; walks = c .before .before .before .pre .1 .0 .walks; node = c .before .before .before .pre .1 .0 .node })
+    (deep-returns t)
+    (λ c κs. (c .before .before .follow .ensures .visits _ _ (c .before .before .before .before .before .before .pre .1 .0), omega (arith, c .before .before .before .before .before .before .pre .1 .1 .0)))
+    (λ c. search needs)
+    (λ c κs. search needs)
+    (λ c. search needs)
+    (λ c. omega (arith, c .before .before .before .before .before .if1 .left))
+    (λ c κs. go t (c .before .before .before .before .before) (next t (c .before .before .before .before .before) (c .before .before .before .p .given .1)))
+    (λ c. search needs)
+    (λ c. omega (arith, c .before .before .before .before .before .if1 .left))
+    (λ c κs. go t (c .before .before .before .before .before) (next t (c .before .before .before .before .before) (c .before .before .before .p2 .given .1) .0))
+    (λ c. search needs)
+    (λ c κs. let (h, k, s) = next t (c .before .before .before .before .before .before .before .before .before .before .before .before) (c .before .before .before .before .before .before .before .before .before .before .p2 .given .1) in omega (arith, lift-small (one-of t (c .before .before .before .before .before .before .before .before .before .before .before .before) (c .before .before .before .before .before .before .before .before .before .before .p2 .given .1)) (c .before .before .before .before .before .before .lay2 .ensures) (c .before .before .rest .given .1), k, h .near, c .before .before .before .before .before .before .before .before .before .before .before .before .before .before .before .before .before .before .before .pre .1 .1 .0, c .before .before .before .before .before .before .before .before .before .before .before .before .before .before .before .before .before .before .before .pre .1 .1 .1, c .before .before .before .before .before .before .before .before .before .before .before .before .before .before .before .follow .ensures .le))
+    (λ c. search needs)
+    (λ c. search needs)
+    (λ c. search needs)
+    (λ c κs. search needs)
+    (λ c. search needs)
+    (λ c κs. search needs)
+    (λ c. omega (arith, c .before .before .before .before .before .before .before .before .before .before .before .before .before .if1 .left))
+    (λ c. omega (arith, c .before .place .ensures))
+    (λ c. omega (arith, c .before .place .ensures))
+    (λ c. omega (arith, c .before .place .ensures))
+    (λ c. omega (arith, c .before .place .ensures))
+    (λ c κs. go t (c .before .before .before .before .before .before .before .before .before .before .before .before .before) (next t (c .before .before .before .before .before .before .before .before .before .before .before .before .before) (c .before .before .before .before .before .before .before .before .before .before .before .t .given .1)))
+    (λ c. search needs)
+    (λ c. search needs)
+    (λ c. search needs)
+    (λ c. omega (arith, c .before .before .before .before .before .if1 .left))
+    (λ c κs. go t (c .before .before .before .before .before) (next t (c .before .before .before .before .before) (c .before .before .before .p3 .given .1) .0))
+    (λ c. search needs)
+    (λ c. rest-within (c .before .before .before .before .before .lay4 .ensures) (c .before .rest3 .given .1))
+    (λ c κs. search needs)
+    (λ c. omega (arith, c .before .before .before .before .before .before .before .before .before .before .before .before .before .before .if1 .left))
+    (λ c. omega (arith, c .before .place2 .ensures, c .before .before .before .before .before .before .before .lay4 .ensures .long, c .before .before .before .before .before .before .before .before .before .before .before .before .before .before .before .before .before .before .before .before .good))
+    (λ c. omega (arith, c .before .place2 .ensures, c .before .before .before .before .before .before .before .lay4 .ensures .long, c .before .before .before .before .before .before .before .before .before .before .before .before .before .before .before .before .before .before .before .before .good))
+    (λ c. omega (arith, c .before .place2 .ensures, c .before .before .before .before .before .before .before .lay4 .ensures .long, c .before .before .before .before .before .before .before .before .before .before .before .before .before .before .before .before .before .before .before .before .good))
+    (λ c. omega (arith, c .before .place2 .ensures, c .before .before .before .before .before .before .before .lay4 .ensures .long, c .before .before .before .before .before .before .before .before .before .before .before .before .before .before .before .before .before .before .before .before .good))
+    (λ c κs. go t (c .before .before .before .before .before .before .before .before .before .before .before .before .before .before) (next t (c .before .before .before .before .before .before .before .before .before .before .before .before .before .before) (c .before .before .before .before .before .before .before .before .before .before .before .before .p3 .given .1) .1))
+    (λ c. search needs)
+    (λ c. search needs)
+    (λ c. c .before .before .put .ensures .long)
+    (cell-returns t)
+    (λ c. c .before .before .lay .ensures .long)
+    (pass-returns t)
+    (λ c. plus-returns t c .long)
+    (plus-returns t)
+    (λ c. c .before .before .before .before .lay2 .ensures .long)
+    (plus-deep t)
+    (λ c. c .before .before .before .before .lay2 .ensures .long)
+    (plus-full t)
+    (λ c. tag-returns t c .long)
+    (tag-returns t)
+    (λ c. c .before .before .before .before .put2 .ensures .long)
+    (tag-deep t)
+    (λ c. c .before .before .before .before .put2 .ensures .long)
+    (tag-full t)
+    (λ c. two-returns t c .long)
+    (two-returns t)
+    (λ c. c .before .before .before .before .lay4 .ensures .long)
+    (two-too-deep t)
+    (λ c. c .before .before .before .before .lay4 .ensures .long)
+    (two-no-room t)

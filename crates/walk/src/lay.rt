@@ -1,0 +1,100 @@
+// The writing walk: it decides by the room, and writes as much of the case as the lent buffer holds.
+ghost use mathlib.Core.Path.{_≡_};
+ghost use mathlib.Core.List.{[], _∷_};
+ghost use Prim.Native.Nat.{_+_, _^_, _<_, _≤_, min};
+ghost use lib.ListN.{length, getD};
+ghost use Rattle.walk.specs.Grammar.{planned};
+ghost use Rattle.walk.specs.Walk.{walk, cell};
+ghost use Rattle.walk.specs.Laid.{Laid, lifted};
+ghost use Rattle.walk.specs.Good.{Visits};
+use super::follow::follow;
+use super::step::Step;
+use super::step::step_of;
+
+// What is left of the room after the case, or the first of 13 and 14 in walk order.
+pub enum RoomLeft {
+    Left(usize),
+    TooDeep,
+    NoRoom,
+}
+
+// One cell of the case.
+fn put(c: u64, room: usize, out: &mut [u64]) -> RoomLeft
+    ensures { λ r. ⌜ Laid room (cell c ∷ []) (now (out .entry)) (now (out .exit)) r ⌝ }
+{
+    if room == 0 {
+        return RoomLeft::NoRoom;
+    }
+    if out.len() == 0 {
+        return RoomLeft::Left(room - 1);
+    }
+    out[0] = c;
+    RoomLeft::Left(room - 1)
+}
+
+// "shift: the part's cell plus k"
+fn lift(k: u64, out: &mut [u64])
+    requires { ⌜ getD (now out) 0 0 + k < 2 ^ 64 ⌝ }
+    ensures { λ _. ⌜ now (out .exit) ≡ lifted k (now (out .entry)) ⌝ }
+{
+    if 0 < out.len() {
+        out[0] = out[0] + k;
+    }
+}
+
+// The place after `used` cells, or the buffer's end.
+fn place(used: usize, long: usize) -> usize
+    ensures { λ r. ⌜ r ≡ min used long ⌝ }
+{
+    if used < long { used } else { long }
+}
+
+// "visits the node's parts at one depth more": the walk calls itself on parts, and the depth left falls.
+// "The second part's cells start right after the first part's": the middle of the buffer that remains
+// is lent on for them.
+pub fn lay(
+    plan: &[u64],
+    pool: &[u64],
+    i: usize,
+    n: u64,
+    left: usize,
+    room: usize,
+    out: &mut [u64],
+) -> RoomLeft
+    requires { ⌜ Visits (now plan) (now pool) i n ⌝ }
+    requires { ⌜ (n + left ≤ 2 ^ 62 + 200) × (left ≤ 200) ⌝ }
+    ensures { λ r. ⌜ Laid room (walk (planned (now (plan .entry)) (now (pool .entry))) left i n) (now (out .entry)) (now (out .exit)) r ⌝ }
+{
+    let at = follow(plan, i, left);
+    if at.left == 0 {
+        return RoomLeft::TooDeep;
+    }
+    match step_of(plan, pool, at.node, n) {
+        Step::Cell(c) => put(c, room, out),
+        Step::Pass(p, m) => lay(plan, pool, p, m, at.left - 1, room, out),
+        Step::Plus(p, m, k) => match lay(plan, pool, p, m, at.left - 1, room, out) {
+            RoomLeft::Left(rest) => {
+                lift(k, out);
+                RoomLeft::Left(rest)
+            }
+            RoomLeft::TooDeep => RoomLeft::TooDeep,
+            RoomLeft::NoRoom => RoomLeft::NoRoom,
+        },
+        Step::Tag(t, p, m) => match put(t, room, out) {
+            RoomLeft::Left(rest) => {
+                let k = place(1, out.len());
+                lay(plan, pool, p, m, at.left - 1, rest, &mut out[k..])
+            }
+            RoomLeft::TooDeep => RoomLeft::TooDeep,
+            RoomLeft::NoRoom => RoomLeft::NoRoom,
+        },
+        Step::Two(p, x, q, y) => match lay(plan, pool, p, x, at.left - 1, room, out) {
+            RoomLeft::Left(rest) => {
+                let k = place(room - rest, out.len());
+                lay(plan, pool, q, y, at.left - 1, rest, &mut out[k..])
+            }
+            RoomLeft::TooDeep => RoomLeft::TooDeep,
+            RoomLeft::NoRoom => RoomLeft::NoRoom,
+        },
+    }
+}
