@@ -1,6 +1,7 @@
 -- Where the steps of a checked table lead.
 --   step-lower   to a lower node, but for that of an again
 --   step-to      to a node of the table
+--   ..-steps     the steps of a node, by its kind
 --   mark-..      the marks of a node's steps, by its kind, as the code sets them
 -- Assumes nothing.
 use mathlib.Core.Path.{_≡_, refl, subst}
@@ -9,6 +10,8 @@ use mathlib.Core.Logic.{_⊎_, inl, inr, ⊎-elim}
 use mathlib.Core.List.{List, [], _∷_, List·Memᴰ, List·Memᴰ·cases-cons, List·Memᴰ·eq-of-singleton, List·Memᴰ·not-nil}
 use Prim.Native.Nat.{ℕ, _+_, _*_, _≤_, _<_}
 use native.Mathlib.Omega.{arith}
+use mir.Syntax.{w64}
+use mir.Val.{Fits}
 use lib.Dec.{ltb}
 use lib.ListN.{length, getD, take, drop, set, List·getD-eq-default}
 use borrow.Author.Tests.{ltb-true}
@@ -28,7 +31,7 @@ use Rattle.grammar.proofs.Runs.{lower-run}
 use Rattle.grammar.proofs.ByKind.{by-kind}
 
 -- a member of a list that a test passes everywhere
-every-mem : (test : ℕ → Bool) (m : ℕ) (xs : List ℕ) → every test xs ≡ true → List·Memᴰ m xs → test m ≡ true
+pub every-mem : (test : ℕ → Bool) (m : ℕ) (xs : List ℕ) → every test xs ≡ true → List·Memᴰ m xs → test m ≡ true
 unfolding every
 every-mem test m [] e i = absurd (List·Memᴰ·not-nil i)
 every-mem test m (x ∷ xs) e i =
@@ -118,10 +121,6 @@ module _ {t p plan : List ℕ} (r : Ready t p plan) {n : ℕ} (h : n < nodes t) 
 
   -- a dep's first part has as many numbers as its word in the plan
   module _ (e : kindOf t n ≡ 6) where
-    pub dep-row : 4 * aOf t n + 3 < length plan
-    unfolding nodeOf
-    dep-row = omega (arith, at 6 e .0, h, r .long)
-
     count-is : count (sizeIn plan (aOf t n)) ≡ getD plan (4 * aOf t n + 3) 0
     unfolding nodeOf
     count-is =
@@ -129,6 +128,20 @@ module _ {t p plan : List ℕ} (r : Ready t p plan) {n : ℕ} (h : n < nodes t) 
       where
         never : false ≡ true → ⊥
         never q = let x : _≡_ {A = ℕ} 0 1 = cc in omega arith
+
+    -- the place of that word in the plan, as the code comes to it
+    pub fours-fit : Fits w64 (4 * aOf t n)
+    fours-fit = omega (arith, a-few (omega arith))
+
+    pub place-fits : Fits w64 (4 * aOf t n + 3)
+    place-fits = omega (arith, a-few (omega arith))
+
+    pub bytes-fit : Fits w64 ((4 * aOf t n + 3) * 8)
+    bytes-fit = omega (arith, a-few (omega arith))
+
+    pub place-few : 4 * aOf t n + 3 < length plan
+    unfolding nodeOf
+    place-few = omega (arith, at 6 e .0, h, r .long)
 
     pub run-in : bOf t n + getD plan (4 * aOf t n + 3) 0 ≤ length p
     unfolding nodeOf
@@ -140,36 +153,66 @@ module _ {t p plan : List ℕ} (r : Ready t p plan) {n : ℕ} (h : n < nodes t) 
         let f : allLower n (take (getD plan (4 * aOf t n + 3) 0) (drop (bOf t n) p)) ≡ true = rw (← count-is) (at 6 e .3) in
         omega (arith, lower-run n p (bOf t n) (getD plan (4 * aOf t n + 3) 0) run-in f i l, r .checked .few)
 
+    pub dep-steps : (guarded : Bool) → stepsOf guarded t p (sizeIn plan) n ≡ aOf t n ∷ take (getD plan (4 * aOf t n + 3) 0) (drop (bOf t n) p)
+    unfolding steps nodeOf
+    dep-steps guarded = rw (e, count-is)
+
     pub mark-dep : (guarded : Bool) (m : List ℕ) {last : List ℕ} → last ≡ marked (set m (aOf t n) 1) (take (getD plan (4 * aOf t n + 3) 0) (drop (bOf t n) p))
         → last ≡ marked m (stepsOf guarded t p (sizeIn plan) n)
-    unfolding marked steps nodeOf
-    mark-dep guarded m q = rw e (rw count-is q)
+    unfolding marked
+    mark-dep guarded m q = rw (dep-steps guarded) q
+
+-- ---- a node's steps, by its kind
+module _ (guarded : Bool) (t p : List ℕ) (z : ℕ → Size) (n : ℕ) where
+  pub low-steps : kindOf t n < 3 → stepsOf guarded t p z n ≡ []
+  unfolding steps
+  low-steps l =
+      by-kind (λ v. steps guarded p z v ≡ []) (kindOf t n) (aOf t n) (bOf t n) (λ e. refl) (λ e. refl) (λ e. refl)
+      (λ e. absurd (omega arith)) (λ e. absurd (omega arith)) (λ e. absurd (omega arith)) (λ e. absurd (omega arith)) (λ e. absurd (omega arith))
+      (λ e. absurd (omega arith)) (λ e. absurd (omega arith)) (λ e. absurd (omega arith))
+
+  pub first-step : 3 ≤ kindOf t n → kindOf t n ≤ 9 → (more : List ℕ) × (stepsOf guarded t p z n ≡ aOf t n ∷ more)
+  unfolding steps
+  first-step l u =
+      by-kind (λ v. (more : List ℕ) × (steps guarded p z v ≡ aOf t n ∷ more)) (kindOf t n) (aOf t n) (bOf t n)
+      (λ e. absurd (omega arith)) (λ e. absurd (omega arith)) (λ e. absurd (omega arith)) (λ e. (_, refl)) (λ e. (_, refl)) (λ e. (_, refl))
+      (λ e. (_, refl)) (λ e. (_, refl)) (λ e. (_, refl)) (λ e. (_, refl)) (λ m. absurd (omega arith))
+
+  pub or-steps : kindOf t n ≡ 4 → guarded ≡ true → stepsOf guarded t p z n ≡ aOf t n ∷ bOf t n ∷ []
+  unfolding steps nodeOf
+  or-steps e g = rw (e, g)
+
+  pub cons-steps : kindOf t n ≡ 5 → stepsOf guarded t p z n ≡ aOf t n ∷ bOf t n ∷ []
+  unfolding steps nodeOf
+  cons-steps e = rw e
+
+  pub rest-steps : 3 ≤ kindOf t n → kindOf t n ≤ 9 → (kindOf t n ≡ 4 → guarded ≡ false) → (kindOf t n ≡ 5 → ⊥) → (kindOf t n ≡ 6 → ⊥)
+      → stepsOf guarded t p z n ≡ aOf t n ∷ []
+  unfolding steps
+  rest-steps l u f4 f5 f6 =
+      by-kind (λ v. steps guarded p z v ≡ aOf t n ∷ []) (kindOf t n) (aOf t n) (bOf t n)
+      (λ e. absurd (omega arith)) (λ e. absurd (omega arith)) (λ e. absurd (omega arith)) (λ e. refl) (λ e. rw (f4 e)) (λ e. absurd (f5 e))
+      (λ e. absurd (f6 e)) (λ e. refl) (λ e. refl) (λ e. refl) (λ m. absurd (omega arith))
 
 -- ---- the marks of a node's steps, by its kind
 module _ (m : List ℕ) (guarded : Bool) (t p : List ℕ) (z : ℕ → Size) (n : ℕ) where
   pub mark-low : kindOf t n < 3 → m ≡ marked m (stepsOf guarded t p z n)
-  unfolding marked steps
-  mark-low l =
-      by-kind (λ v. m ≡ marked m (steps guarded p z v)) (kindOf t n) (aOf t n) (bOf t n) (λ e. refl) (λ e. refl) (λ e. refl)
-      (λ e. absurd (omega arith)) (λ e. absurd (omega arith)) (λ e. absurd (omega arith)) (λ e. absurd (omega arith)) (λ e. absurd (omega arith))
-      (λ e. absurd (omega arith)) (λ e. absurd (omega arith)) (λ e. absurd (omega arith))
+  unfolding marked
+  mark-low l = rw (low-steps guarded t p z n l)
 
   pub mark-or : kindOf t n ≡ 4 → guarded ≡ true → set (set m (aOf t n) 1) (bOf t n) 1 ≡ marked m (stepsOf guarded t p z n)
-  unfolding marked steps nodeOf
-  mark-or e g = rw (e, g)
+  unfolding marked
+  mark-or e g = rw (or-steps guarded t p z n e g)
 
   pub mark-or-first : kindOf t n ≡ 4 → guarded ≡ false → set m (aOf t n) 1 ≡ marked m (stepsOf guarded t p z n)
-  unfolding marked steps nodeOf
-  mark-or-first e g = rw (e, g)
+  unfolding marked
+  mark-or-first e g = rw (rest-steps guarded t p z n (omega arith) (omega arith) (λ _. g) (λ f. omega arith) (λ f. omega arith))
 
   pub mark-cons : kindOf t n ≡ 5 → set (set m (aOf t n) 1) (bOf t n) 1 ≡ marked m (stepsOf guarded t p z n)
-  unfolding marked steps nodeOf
-  mark-cons e = rw e
+  unfolding marked
+  mark-cons e = rw (cons-steps guarded t p z n e)
 
   pub mark-rest : 3 ≤ kindOf t n → kindOf t n ≤ 9 → (kindOf t n ≡ 4 → ⊥) → (kindOf t n ≡ 5 → ⊥) → (kindOf t n ≡ 6 → ⊥)
       → set m (aOf t n) 1 ≡ marked m (stepsOf guarded t p z n)
-  unfolding marked steps
-  mark-rest l u f4 f5 f6 =
-      by-kind (λ v. set m (aOf t n) 1 ≡ marked m (steps guarded p z v)) (kindOf t n) (aOf t n) (bOf t n)
-      (λ e. absurd (omega arith)) (λ e. absurd (omega arith)) (λ e. absurd (omega arith)) (λ e. refl) (λ e. absurd (f4 e)) (λ e. absurd (f5 e))
-      (λ e. absurd (f6 e)) (λ e. refl) (λ e. refl) (λ e. refl) (λ m. absurd (omega arith))
+  unfolding marked
+  mark-rest l u f4 f5 f6 = rw (rest-steps guarded t p z n l u (λ e. absurd (f4 e)) f5 f6)

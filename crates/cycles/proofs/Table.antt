@@ -1,5 +1,6 @@
 -- A search of a checked table, and its cycles: what `Search`, `Paths` and `Lowest` say of any graph, of a table's.
 --   Sought               what holds at the head of the search's loop; its turns, by the facts that the code has
+--   cycle-in             a node on a cycle is in the table
 --   Passed               of the nodes below n, none of a kind is on a cycle
 --   lowest-again         the lowest node of a cycle is an again
 --   cycles-..            the verdict on cycles, by what was found
@@ -22,7 +23,7 @@ use Rattle.graph.proofs.Marks.{same?, zeros, zeros-set}
 use Rattle.graph.proofs.Paths.{carry-from, lowest-on}
 use Rattle.graph.proofs.Search.{Searching, Finite, search-start, search-skip, search-open, search-end}
 use Rattle.graph.proofs.Ways.{via-decide}
-use Rattle.graph.proofs.Lowest.{lowest-of, lowest-one}
+use Rattle.graph.proofs.Lowest.{lowest-of, lowest-one, nowhere}
 use Rattle.grammar.specs.Table.{kindOf, nodes}
 use Rattle.grammar.specs.Sound.{Checked}
 use Rattle.grammar.specs.Steps.{stepsOf, Step, Leads, KindOnCycle, Unguarded, ExceptOnCycle}
@@ -88,8 +89,8 @@ module _ {guarded : Bool} {t p plan : List ℕ} (r : Ready t p plan) where
       }
 
 -- a node on a cycle is a node of the table
-cycle-in : (guarded : Bool) {t p plan : List ℕ} → Ready t p plan → (n : ℕ) → Leads guarded t p (sizeIn plan) n n → n < nodes t
-cycle-in guarded {t} r n q = carry-from (λ (k : ℕ). k < nodes t) (λ a b _ e. step-to guarded (r .checked) a b e) (λ m e. step-to guarded (r .checked) n m e) q
+pub cycle-in : (guarded : Bool) {t p : List ℕ} {z : ℕ → Size} → Checked t p z → (n : ℕ) → Leads guarded t p z n n → n < nodes t
+cycle-in guarded {t} c n q = carry-from (λ (k : ℕ). k < nodes t) (λ a b _ e. step-to guarded c a b e) (λ m e. step-to guarded c n m e) q
 
 -- ---- the lowest node of a kind on a cycle
 pub record Passed (guarded : Bool) (t p plan : List ℕ) (kind n : ℕ) : Type 0 where
@@ -120,8 +121,8 @@ module _ {guarded : Bool} {t p plan : List ℕ} (r : Ready t p plan) {kind n : �
   lowest-none s l = record {
     within = le-refl 256;
     found = λ h. absurd (lt-irrefl 256 h);
-    before = λ k _ w. s .none k (omega (arith, cycle-in guarded r k (w .cycle))) w;
-    none = λ _ k w. s .none k (omega (arith, cycle-in guarded r k (w .cycle))) w;
+    before = λ k _ w. s .none k (omega (arith, cycle-in guarded (r .checked) k (w .cycle))) w;
+    none = λ _ k w. s .none k (omega (arith, cycle-in guarded (r .checked) k (w .cycle))) w;
   }
 
 -- ---- the lowest node of a cycle is an again
@@ -139,7 +140,7 @@ module _ (guarded : Bool) {t p plan : List ℕ} (r : Ready t p plan) where
 
   -- so where there is none, there is no cycle
   pub no-cycle : ((n : ℕ) → n < nodes t → kindOf t n ≡ 9 → ⊥) → (k : ℕ) → Leads guarded t p (sizeIn plan) k k → ⊥
-  no-cycle f k q = let (j, le, e, o) = low q in f j (cycle-in guarded r j o) e
+  no-cycle f k q = let (j, le, e, o) = low q in f j (cycle-in guarded (r .checked) j o) e
 
 -- ---- the verdict on cycles, computed and found
 module _ {t p : List ℕ} {z : ℕ → Size} (c : Checked t p z) where
@@ -156,16 +157,13 @@ module _ {t p : List ℕ} {z : ℕ → Size} (c : Checked t p z) where
     no = λ e w. cycle? true k l .no (rw (eq-eqb (kindOf t k) kind (w .is)) at e) (w .cycle);
   }
 
-  in-table : (guarded : Bool) (n : ℕ) → Leads guarded t p z n n → n < nodes t
-  in-table guarded n q = carry-from (λ (k : ℕ). k < nodes t) (λ a b _ e. step-to guarded c a b e) (λ m e. step-to guarded c n m e) q
-
   pub unguarded-is : Lowest (Unguarded t p z) (unguarded t p z)
   unfolding unguarded
-  unguarded-is = lowest-of (λ n. leads false t p z n n) (nodes t) (c .few) (cycle? false) (λ k q. in-table false k q)
+  unguarded-is = lowest-of (λ n. leads false t p z n n) (nodes t) (c .few) (cycle? false) (λ k q. cycle-in false c k q)
 
   pub except-is : Lowest (ExceptOnCycle t p z) (exceptOnCycle t p z)
   unfolding exceptOnCycle
-  except-is = lowest-of (λ n. eqb (kindOf t n) 7 && leads true t p z n n) (nodes t) (c .few) (kind? 7) (λ k w. in-table true k (w .cycle))
+  except-is = lowest-of (λ n. eqb (kindOf t n) 7 && leads true t p z n n) (nodes t) (c .few) (kind? 7) (λ k w. cycle-in true c k (w .cycle))
 
   pub cycles-by : {u e : ℕ} → Lowest (Unguarded t p z) u → Lowest (ExceptOnCycle t p z) e
       → pick (ltb u 256) (Refused Rule9 u) (pick (ltb e 256) (Refused Rule10 e) Accepted) ≡ cycles t p z
@@ -182,9 +180,6 @@ module _ {t p plan : List ℕ} (r : Ready t p plan) where
 
     pub cycles-none : 256 ≤ e → Accepted ≡ cycles t p (sizeIn plan)
     cycles-none l = rw (le-ltb u 256 none, le-ltb e 256 l) at (cycles-by (r .checked) f h)
-
-  nowhere : {P : ℕ → Type 0} → ((k : ℕ) → P k → ⊥) → Lowest P 256
-  nowhere f = record { within = le-refl 256; found = λ l. absurd (lt-irrefl 256 l); before = λ k l. f k; none = λ e k. f k }
 
   pub cycles-no-again : {b : Bool} → (b ≡ false → (n : ℕ) → n < nodes t → getD t (3 * n) 0 ≡ 9 → ⊥) → b ≡ false → Accepted ≡ cycles t p (sizeIn plan)
   cycles-no-again f e =

@@ -8,9 +8,11 @@ ghost use Rattle.graph.specs.Paths.{Decides};
 ghost use Rattle.graph.specs.Lowest.{Lowest};
 ghost use Rattle.graph.specs.Marks.{marked};
 ghost use Rattle.grammar.specs.Table.{nodes};
+ghost use Rattle.grammar.specs.Rows.{every};
 ghost use Rattle.grammar.specs.Steps.{stepsOf, Leads, KindOnCycle, Unguarded, ExceptOnCycle};
 ghost use Rattle.grammar.specs.Plan.{sizeIn, Ready};
 ghost use Rattle.grammar.specs.Verdict.{cycles};
+ghost use Rattle.cycles.specs.Safe.{isMarked, SafeMarks, SafePass};
 use grammar::kinds::AGAIN;
 use grammar::kinds::CONS;
 use grammar::kinds::DEP;
@@ -130,11 +132,93 @@ fn has_again(table: &[u64]) -> bool
     false
 }
 
-// Refusal 9: the lowest node on a cycle that never steps to the second part of an or.
+// Whether the nodes that `count` words of the pool name, from `at` on, are all marked safe.
+fn run_safe(pool: &[u64], at: usize, count: usize, safe: &[u8; 256]) -> bool
+    requires { ⌜ at + count ≤ length (now pool) ⌝ }
+    requires { ⌜ ((i : ℕ) → i < count → getD (now pool) (at + i) 0 < 256) ⌝ }
+    ensures { λ r. ⌜ r ≡ every (isMarked (now (safe .entry))) (take count (drop at (now (pool .entry)))) ⌝ }
+{
+    for i in 0..count {
+        let s = pool[at + i] as usize;
+        if safe[s] == 0 {
+            return false;
+        }
+    }
+    true
+}
+
+// Whether the nodes that node n steps to are all marked safe: "to both parts, to a dep's first and
+// each second, and from again to its fix". An or's second part is not asked: 9 never steps to it.
+fn steps_safe(table: &[u64], pool: &[u64], plan: &[u64], n: usize, safe: &[u8; 256]) -> bool
+    requires { ⌜ Ready (now table) (now pool) (now plan) ⌝ }
+    requires { ⌜ n < nodes (now table) ⌝ }
+    ensures { λ r. ⌜ r ≡ every (isMarked (now (safe .entry))) (stepsOf false (now (table .entry)) (now (pool .entry)) (sizeIn (now (plan .entry))) n) ⌝ }
+{
+    let kind = table[3 * n];
+    if kind < SHIFT {
+        return true;
+    }
+    let a = table[3 * n + 1] as usize;
+    if safe[a] == 0 {
+        return false;
+    }
+    let b = table[3 * n + 2] as usize;
+    match kind {
+        CONS => safe[b] != 0,
+        DEP => run_safe(pool, b, plan[4 * a + 3] as usize, safe),
+        _ => true,
+    }
+}
+
+// One pass over the nodes, rising: marks those whose steps lead to safe nodes alone, and says how
+// many stay unmarked.
+fn safe_pass(table: &[u64], pool: &[u64], plan: &[u64], safe: &mut [u8; 256]) -> usize
+    requires { ⌜ Ready (now table) (now pool) (now plan) ⌝ }
+    requires { ⌜ SafeMarks (now table) (now pool) (now plan) (now safe) ⌝ }
+    ensures { λ r. ⌜ SafePass (now (table .entry)) (now (pool .entry)) (now (plan .entry)) (now (safe .exit)) (nodes (now (table .entry))) r ⌝ }
+{
+    let count = table.len() / 3;
+    let mut left = 0;
+    for n in 0..count {
+        if safe[n] != 0 {
+            continue;
+        }
+        if steps_safe(table, pool, plan, n, safe) {
+            safe[n] = 1;
+            continue;
+        }
+        left += 1;
+    }
+    left
+}
+
+// Whether passes show that no node is on "a cycle that never steps to the second part of an or".
+// They go on while each leaves fewer nodes unmarked than the one before.
+fn all_safe(table: &[u64], pool: &[u64], plan: &[u64]) -> bool
+    requires { ⌜ Ready (now table) (now pool) (now plan) ⌝ }
+    ensures { λ r. ⌜ (r ≡ true → (n : ℕ) → Unguarded (now (table .entry)) (now (pool .entry)) (sizeIn (now (plan .entry))) n → ⊥) ⌝ }
+{
+    let mut safe = [0u8; 256];
+    let mut left = table.len() / 3;
+    while 0 < left {
+        let still = safe_pass(table, pool, plan, &mut safe);
+        if left <= still {
+            return false;
+        }
+        left = still;
+    }
+    true
+}
+
+// Refusal 9: the lowest node on a cycle that never steps to the second part of an or. It is searched
+// for only where the passes leave a node, since a search from each again is slow.
 fn unguarded(table: &[u64], pool: &[u64], plan: &[u64]) -> u64
     requires { ⌜ Ready (now table) (now pool) (now plan) ⌝ }
     ensures { λ r. ⌜ Lowest (Unguarded (now (table .entry)) (now (pool .entry)) (sizeIn (now (plan .entry)))) r ⌝ }
 {
+    if all_safe(table, pool, plan) {
+        return NONE;
+    }
     lowest_of_kind(table, pool, plan, AGAIN, false)
 }
 

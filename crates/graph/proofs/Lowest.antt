@@ -2,6 +2,7 @@
 --   lowest-of    lowest test n is Lowest P, where the test decides P and P holds of no number from n on
 --   lowest-one   two Lowest P are equal
 --   lowest-256   where none was found
+--   nowhere      where there is none
 -- Assumes nothing.
 use mathlib.Core.Path.{_≡_}
 use mathlib.Core.Bool.{Bool}
@@ -59,3 +60,6 @@ lowest-one {P} {r} {s} l m =
 
 pub lowest-256 : {P : ℕ → Type 0} {r : ℕ} → Lowest P r → 256 ≤ r → Lowest P 256
 lowest-256 {P} {r} l h = let e : r ≡ 256 = omega (arith, l .within) in rw e at l
+
+pub nowhere : {P : ℕ → Type 0} → ((k : ℕ) → P k → ⊥) → Lowest P 256
+nowhere f = record { within = le-refl 256; found = λ l. absurd (lt-irrefl 256 l); before = λ k l. f k; none = λ e k. f k }

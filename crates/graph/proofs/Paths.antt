@@ -27,6 +27,11 @@ module _ {E : ℕ → ℕ → Type 0} where
   carry-from C s f (one {n} {m} e) = f m e
   carry-from C s f (more {n} {k} e q) = carry C s (f k e) q
 
+  -- where no step of a node leads on to a cycle, or into one, no path from it comes to one
+  pub to-no-cycle : {a : ℕ} → ((m : ℕ) → E a m → (j : ℕ) → Path E m j → Path E j j → ⊥) → (j : ℕ) → Path E a j → Path E j j → ⊥
+  to-no-cycle f j (one e) c = f j e j c c
+  to-no-cycle f j (more {k} e q) c = f k e j q c
+
   -- Where each step from a node of which A does not hold leads lower, A holds of a node on each cycle that is no higher than the node that we start at
   module _ (A : ℕ → Type 0) (A? : (n : ℕ) → A n ⊎ (A n → ⊥)) (lower : (n m : ℕ) → (A n → ⊥) → E n m → m < n) where
     low : (b k : ℕ) → k < b → Path E k k → (j : ℕ) × (j ≤ k) × A j × Path E j j

@@ -1,8 +1,7 @@
 -- `cycles::mark_steps` marks the nodes that a node names.
 -- Assumes nothing.
 use borrow.Author.Needs.{needs}
-use native.Mathlib.Omega.{arith}
-use Rattle.cycles.proofs.Steps.{a-few, dep-row, kind-few, or-few, cons-few, run-in, seconds-few, mark-low, mark-or, mark-or-first, mark-cons, mark-dep, mark-rest}
+use Rattle.cycles.proofs.Steps.{a-few, kind-few, or-few, cons-few, fours-fit, place-fits, bytes-fit, place-few, run-in, seconds-few, mark-low, mark-or, mark-or-first, mark-cons, mark-dep, mark-rest}
 use Rattle.cycles.proofs.mark_steps.Statement.{statement}
 use Rattle.cycles.proofs.mark_steps.Tie as tie
 
@@ -25,10 +24,10 @@ mark-steps-spec =
     (λ c. search a-few)
     (λ c. search or-few)
     (λ c. search cons-few)
-    (λ c. omega (arith, a-few (c .before .before .before .before .before .before .before .before .pre .0) (c .before .before .before .before .before .before .before .before .pre .1) (omega arith)))
-    (λ c. omega (arith, a-few (c .before .before .before .before .before .before .before .before .pre .0) (c .before .before .before .before .before .before .before .before .pre .1) (omega arith)))
-    (λ c. omega (arith, a-few (c .before .before .before .before .before .before .before .before .pre .0) (c .before .before .before .before .before .before .before .before .pre .1) (omega arith)))
-    (λ c. search dep-row)
+    (λ c. search fours-fit)
+    (λ c. search place-fits)
+    (λ c. search bytes-fit)
+    (λ c. search place-few)
     (λ c κs. search (run-in, seconds-few))
     (λ c. search mark-or)
     (λ c. search mark-or-first)

@@ -1,7 +1,8 @@
--- `cycles::unguarded` asks the agains alone: the lowest node of a cycle is one.
+-- `cycles::unguarded` asks the agains alone, and only where passes leave it open: the lowest node of a cycle is one.
 -- Assumes nothing.
 use borrow.Author.Needs.{needs}
 use mathlib.Core.Bool.{false}
+use Rattle.graph.proofs.Lowest.{nowhere}
 use Rattle.cycles.proofs.Table.{lowest-again}
 use Rattle.cycles.proofs.unguarded.Statement.{statement}
 use Rattle.cycles.proofs.unguarded.Tie as tie
@@ -11,4 +12,6 @@ unguarded-spec =
     tie.close
     (tie.spec
     (λ c κs. search needs)
-    (λ c. lowest-again false (c .before .before .before .before .pre) (c .lowest-of-kind .ensures)))
+    (λ c. nowhere (c .before .all-safe .ensures (c .if1 .taken)))
+    (λ c κs. search needs)
+    (λ c. lowest-again false (c .before .before .before .before .before .before .pre) (c .lowest-of-kind .ensures)))

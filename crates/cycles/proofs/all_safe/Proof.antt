@@ -1,0 +1,30 @@
+-- `cycles::all_safe` makes passes until one leaves no node, or no fewer than the one before.
+-- Assumes nothing.
+use borrow.Author.Needs.{needs}
+use mathlib.Core.Bool.{false≢true}
+use native.Mathlib.Omega.{arith}
+use Rattle.graph.proofs.Marks.{blank}
+use Rattle.grammar.specs.Table.{nodes}
+use Rattle.cycles.specs.Safe.{SafePass}
+use Rattle.cycles.proofs.Safe.{pass-start, all-safe}
+use Rattle.cycles.proofs.all_safe.Statement.{statement}
+use Rattle.cycles.proofs.all_safe.Tie as tie
+
+abbrev Inv-loop : tie.InvT-loop
+Inv-loop table pool plan safe₀ left₀ safe left = SafePass table pool plan safe (nodes table) left
+
+abbrev μ-loop : tie.MeasureT-loop
+μ-loop table pool plan safe₀ left₀ safe left = left
+
+pub all-safe-spec : {M : Type 1} → statement M
+all-safe-spec =
+    tie.close
+    (tie.spec
+    Inv-loop
+    μ-loop
+    (λ c. pass-start (blank 256))
+    (λ c κs. search needs)
+    (λ c. λ e. absurd (false≢true e))
+    (λ c. omega arith)
+    (λ c. search needs)
+    (λ c. λ e. search all-safe))
