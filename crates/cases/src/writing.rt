@@ -1,14 +1,20 @@
 // From a number to cells.
-ghost use Rattle.checked.specs.Prepared.{Blank, Planning};
+ghost use mathlib.Core.Path.{_≡_};
+ghost use lib.ListN.{length};
+ghost use Rattle.walk.specs.Grammar.{planned};
+ghost use Rattle.walk.specs.Filled.{over};
+ghost use Rattle.checked.specs.Prepared.{Blank, Planning, Stands};
+ghost use Rattle.checked.specs.Fits.{caseCells, fitted};
+ghost use Rattle.checked.specs.Kept.{Kept};
+ghost use Rattle.checked.specs.declared.fits.Fit.the-variants.{Cells};
 ghost use Rattle.cases.specs.Write.{Wrote, WrotePlanned};
-use checked::fits::DEPTH;
+use checked::copy::copy;
 use checked::fits::Fit;
 use checked::fits::fits;
 use checked::prepared::SMALL;
 use checked::prepared::prepare;
 use grammar::refusal::Refusal;
 use grammar::refusal::Verdict;
-use walk::fill::fill;
 
 // The count of cells, or the refusal and its node.
 pub enum Written {
@@ -16,13 +22,37 @@ pub enum Written {
     Refused(Refusal, u64),
 }
 
-// The call on an accepted table: 11, then 12, then the walk. It writes only once it is known to fit.
+// The cells that the deciding walk has kept; or else the walk is made again, over the buffer itself.
+fn settle(
+    plan: &[u64],
+    pool: &[u64],
+    start: usize,
+    number: u64,
+    kept: &[u64],
+    count: usize,
+    cells: &mut [u64],
+)
+    requires { ⌜ Stands (now plan) (now pool) start ⌝ }
+    requires { ⌜ fitted (planned (now plan) (now pool)) start number (length (now cells)) ≡ Cells count ⌝ }
+    requires { ⌜ Kept (caseCells (planned (now plan) (now pool)) start number) (now kept) count (length (now cells)) ⌝ }
+    ensures { λ _. ⌜ now (cells .exit) ≡ over (caseCells (planned (now (plan .entry)) (now (pool .entry))) start number) (now (cells .entry)) ⌝ }
+{
+    if count <= kept.len() {
+        copy(kept, count, cells);
+        return;
+    }
+    fits(plan, pool, start, number, cells.len(), cells);
+}
+
+// The call on an accepted table: 11, then 12, then the walk. It decides over a buffer of its own, and
+// writes only once the case is known to fit.
 fn write_planned(
     table: &[u64],
     pool: &[u64],
     plan: &[u64],
     start: usize,
     number: u64,
+    scratch: &mut [u64],
     cells: &mut [u64],
 ) -> Written
     requires { ⌜ Planning (now table) (now pool) (now plan) ⌝ }
@@ -31,8 +61,11 @@ fn write_planned(
     if table.len() / 3 <= start {
         return Written::Refused(Refusal::NoSuchStart, 0);
     }
-    match fits(plan, pool, start, number, cells.len()) {
-        Fit::Cells(_) => Written::Done(fill(plan, pool, start, number, DEPTH, cells)),
+    match fits(plan, pool, start, number, cells.len(), scratch) {
+        Fit::Cells(k) => {
+            settle(plan, pool, start, number, scratch, k, cells);
+            Written::Done(k)
+        }
         Fit::Not(r) => Written::Refused(r, 0),
     }
 }
@@ -52,7 +85,10 @@ fn write_with(
     let v = prepare(table, pool, plan);
     match v {
         Verdict::Refused(r, k) => Written::Refused(r, k),
-        Verdict::Accepted => write_planned(table, pool, plan, start, number, cells),
+        Verdict::Accepted => {
+            let mut scratch = [0u64; 64];
+            write_planned(table, pool, plan, start, number, &mut scratch, cells)
+        }
     }
 }
 

@@ -23,7 +23,7 @@ use Rattle.walk.specs.declared.lay.RoomLeft.{RoomLeft}
 use Rattle.walk.specs.declared.lay.RoomLeft.the-variants.{Left, TooDeep, NoRoom}
 use Rattle.checked.specs.Fits.{asked, Asked, roomFor, outcome, fitted}
 use Rattle.checked.specs.declared.fits.Fit.the-variants.{Cells, Not}
-use Rattle.checked.proofs.Fitting.{tally-count}
+use Rattle.walk.proofs.Lays.{tally-count}
 
 pub is-asked : (s : Size) (n : ℕ) → Asked s n → asked s n ≡ true
 is-asked (finite m) n a = rw (lt-ltb n m (a .below), lt-ltb n (2 ^ 62) (a .small))

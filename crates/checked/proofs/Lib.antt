@@ -1,6 +1,7 @@
 -- What the proofs of the whole check and of one case cite.
 pub mod Preparing
 pub mod Walking
+pub mod Copying
 pub mod Fitting
 pub mod Fitted
 pub mod Standing

@@ -1,17 +1,23 @@
 -- One number on a checked table. 01: "12, then the walk with the room left".
 --   asked, Asked   "Numbers asked for are below 2^62 and below the size."
 --   roomFor    "a longer buffer to write into counts as that long for one case"
+--   caseCells  the cells that the walk from a node meets
 --   fitted     the count of the case's cells, or the refusal
+--   FitOver    the same, and what becomes of a buffer
 -- Assumes nothing.
-use mathlib.Core.Bool.{Bool, _&&_}
+use mathlib.Core.Path.{_≡_}
+use mathlib.Core.Bool.{Bool, false, _&&_}
+use mathlib.Core.List.{List}
 use Prim.Native.Nat.{ℕ, _-_, _^_, _<_, min}
 use lib.Dec.{ltb}
+use lib.ListN.{length}
 use Rattle.numbers.specs.Pick.{pick}
 use Rattle.numbers.specs.Size.{Size, below, Below}
 use Rattle.grammar.specs.declared.refusal.Refusal.the-variants.{NoSuchNumber, TooDeep, NoRoom}
 use Rattle.walk.specs.Grammar.{Grammar}
-use Rattle.walk.specs.Walk.{walk, depth}
+use Rattle.walk.specs.Walk.{walk, cells, depth}
 use Rattle.walk.specs.Room.{tallied, most}
+use Rattle.walk.specs.Filled.{over}
 use Rattle.walk.specs.declared.lay.RoomLeft.{RoomLeft}
 use Rattle.walk.specs.declared.lay.RoomLeft.the-variants.{Left, TooDeep as Deep, NoRoom as Full}
 use Rattle.checked.specs.declared.fits.Fit.{Fit}
@@ -28,6 +34,9 @@ pub record Asked (s : Size) (n : ℕ) : Type 0 where
 abbrev pub roomFor : ℕ → ℕ
 roomFor room = min room most
 
+abbrev pub caseCells : Grammar → ℕ → ℕ → List ℕ
+caseCells g i n = cells (walk g depth i n)
+
 -- what is left of the room says how many cells there are
 abbrev pub outcome : ℕ → RoomLeft → Fit
 outcome room (Left rest) = Cells (room - rest)
@@ -36,3 +45,10 @@ outcome room Full = Not NoRoom
 
 unfoldable pub fitted : Grammar → ℕ → ℕ → ℕ → Fit
 fitted g i n room = pick (asked (g .size i) n) (outcome (roomFor room) (tallied (roomFor room) (walk g depth i n))) (Not NoSuchNumber)
+
+-- a case that fits is over the buffer's front, as far as that goes; after 12 the buffer is as it was
+pub record FitOver (g : Grammar) (i n room : ℕ) (old last : List ℕ) (r : Fit) : Type 0 where
+  pub is : r ≡ fitted g i n room
+  pub long : length last ≡ length old
+  pub holds : (k : ℕ) → r ≡ Cells k → last ≡ over (caseCells g i n) old
+  pub kept : asked (g .size i) n ≡ false → last ≡ old

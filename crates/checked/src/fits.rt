@@ -2,11 +2,11 @@
 ghost use mathlib.Core.Path.{_≡_};
 ghost use Rattle.walk.specs.Grammar.{planned};
 ghost use Rattle.checked.specs.Prepared.{Stands};
-ghost use Rattle.checked.specs.Fits.{roomFor, fitted};
+ghost use Rattle.checked.specs.Fits.{roomFor, FitOver};
 use grammar::refusal::Refusal;
 use numbers::size::LARGEST;
-use walk::tally::RoomLeft;
-use walk::tally::tally;
+use walk::lay::RoomLeft;
+use walk::lay::lay;
 
 // "Depth is at most 200. A case has at most 65,536 cells"
 pub const DEPTH: usize = 200;
@@ -26,10 +26,18 @@ fn room_for(room: usize) -> usize
     if room < MOST_CELLS { room } else { MOST_CELLS }
 }
 
-// Decides without writing.
-pub fn fits(plan: &[u64], pool: &[u64], start: usize, number: u64, room: usize) -> Fit
+// Decides by the room, and writes as much of the case as the lent buffer holds: a call that decides first
+// lends one of its own.
+pub fn fits(
+    plan: &[u64],
+    pool: &[u64],
+    start: usize,
+    number: u64,
+    room: usize,
+    out: &mut [u64],
+) -> Fit
     requires { ⌜ Stands (now plan) (now pool) start ⌝ }
-    ensures { λ r. ⌜ r ≡ fitted (planned (now (plan .entry)) (now (pool .entry))) start number room ⌝ }
+    ensures { λ r. ⌜ FitOver (planned (now (plan .entry)) (now (pool .entry))) start number room (now (out .entry)) (now (out .exit)) r ⌝ }
 {
     if plan[4 * start + 3] <= number {
         return Fit::Not(Refusal::NoSuchNumber);
@@ -38,7 +46,7 @@ pub fn fits(plan: &[u64], pool: &[u64], start: usize, number: u64, room: usize) 
         return Fit::Not(Refusal::NoSuchNumber);
     }
     let most = room_for(room);
-    match tally(plan, pool, start, number, DEPTH, most) {
+    match lay(plan, pool, start, number, DEPTH, most, out) {
         RoomLeft::Left(rest) => Fit::Cells(most - rest),
         RoomLeft::TooDeep => Fit::Not(Refusal::TooDeep),
         RoomLeft::NoRoom => Fit::Not(Refusal::NoRoom),

@@ -1,26 +1,25 @@
 -- The items of a row that is written, in turn.
 --   Tallying      a row's answer is that of its rest, so many items and cells later
---   RowFilled     the row's first items are written over the buffer's front
---   done-asked, done-row   all items fit: each number may be asked for, and the counts are the row's
+--   Laying        and its first items' cells are over the buffer's front, as far as that goes
+--   done-row      all items fit: the counts are the row's
 -- Assumes nothing.
-use mathlib.Core.Path.{_≡_, refl, sym, _∙_}
+use mathlib.Core.Path.{_≡_, refl, sym, ap, _∙_}
 use mathlib.Core.List.{List, [], _∷_, _++_, append-assoc, append-nil}
-use Prim.Native.Nat.{ℕ, zero, suc, _+_, _-_, _≤_, _<_}
-use native.Mathlib.Nat.{not-suc-le-zero, le-of-suc-le-suc}
+use Prim.Native.Nat.{ℕ, suc, _+_, _-_, _≤_, _<_, min}
 use native.Mathlib.Numerals.{add-one}
 use native.Mathlib.Omega.{arith}
-use lib.ListN.{length, getD, take, drop, length-append, drop-of-length-le}
+use lib.ListN.{length, getD, take, drop, length-append, length-drop, length-take, drop-of-length-le}
 use lib.Seq.{take-all, take-suc, drop-cons}
 use Rattle.grammar.specs.declared.refusal.Refusal.{Refusal}
 use Rattle.walk.specs.Grammar.{Grammar}
 use Rattle.walk.specs.Walk.{walk, cells, depth}
-use Rattle.walk.specs.Filled.{over, Filled}
-use Rattle.walk.proofs.Fills.{nothing, then}
-use Rattle.checked.specs.Fits.{Asked, fitted}
+use Rattle.walk.specs.Filled.{over}
+use Rattle.walk.proofs.Fills.{length-over, part-old, part-rest, then}
+use Rattle.checked.specs.Fits.{fitted, FitOver}
 use Rattle.checked.specs.declared.fits.Fit.{Fit}
 use Rattle.checked.specs.declared.fits.Fit.the-variants.{Cells, Not}
 use Rattle.checked.proofs.Fitted.{fitted-cells}
-use Rattle.rows.specs.WriteRow.{later, onward, inTurn, rowOf}
+use Rattle.rows.specs.WriteRow.{later, onward, inTurn, rowOf, RowOver}
 use Rattle.rows.specs.declared.answer.Row.{Row}
 use Rattle.rows.specs.declared.answer.Row.the-variants.{Done, Refused}
 
@@ -87,21 +86,50 @@ module _ (g : Grammar) (i : ℕ) where
   unfolding rowOf
   row-more ns j l = rw (add-one, take-suc ns j 0 l) (row-append (take j ns) (getD ns j 0 ∷ []) ∙ rw append-nil)
 
-  pub record RowFilled (ns old now : List ℕ) (j used : ℕ) : Type 0 where
-    pub le : j ≤ length ns
-    pub fills : Filled (rowOf g i (take j ns)) old now used
+  -- ---- the loop: what is decided, and what the buffer holds
+  pub record Laying (room : ℕ) (ns old now : List ℕ) (j used : ℕ) : Type 0 where
+    pub tally : Tallying room ns j used
+    pub many : used ≡ length (rowOf g i (take j ns))
+    pub holds : now ≡ over (rowOf g i (take j ns)) old
 
-  pub filled-none : (ns old : List ℕ) → RowFilled ns old old 0 0
-  unfolding rowOf
-  filled-none ns old = record { le = omega arith; fills = nothing old }
+  pub laying-none : (room : ℕ) (ns old : List ℕ) → Laying room ns old old 0 0
+  unfolding rowOf over
+  laying-none room ns old = record { tally = tallying-none room ns; many = refl; holds = refl }
 
-  pub filled-more : {ns old now part last : List ℕ} {j used k : ℕ} → RowFilled ns old now j used → j < length ns
-      → Filled (cells (walk g depth i (getD ns j 0))) part last k → part ≡ take (length now - used) (drop used now)
-      → RowFilled ns old (take used now ++ (last ++ drop (length now - used) (drop used now))) (j + 1) (used + k)
-  filled-more {ns} {old} {now} {part} {last} {j} {used} {k} h l f e = record { le = omega arith; fills = rw (row-more ns j l) (then (h .fills) f e) }
+  pub laying-long : {room : ℕ} {ns old now : List ℕ} {j used : ℕ} → Laying room ns old now j used → length now ≡ length old
+  laying-long {ns = ns} {old = old} {j = j} h = ap length (h .holds) ∙ length-over (rowOf g i (take j ns)) old
 
-  pub filled-all : {ns old now : List ℕ} {j used : ℕ} → RowFilled ns old now j used → length ns ≤ j → now ≡ over (rowOf g i ns) old
-  filled-all {ns} {old} {now} {j} h l = h .fills .holds ∙ rw (take-all j ns l)
+  module _ {room : ℕ} {ns old now part last : List ℕ} {j used at : ℕ} (h : Laying room ns old now j used) (l : j < length ns) (a : at ≡ min used (length now))
+      (p : part ≡ take (length now - at) (drop at now)) {f : Fit} (e : FitOver g i (getD ns j 0) (room - used) part last f) where
+    after : List ℕ
+    after = take at now ++ (last ++ drop (length now - at) (drop at now))
+
+    after-long : length after ≡ length old
+    unfolding after
+    after-long =
+        let q : part ≡ drop at now = p ∙ part-old at now in
+        omega (arith, laying-long h, e .long, ap length q, length-drop at now, length-take at now, length-append (take at now) (last ++ drop (length now - at) (drop at now)), length-append last (drop (length now - at) (drop at now)), ap length (part-rest at now))
+
+    pub laying-more : {k : ℕ} → f ≡ Cells k → Laying room ns old (take at now ++ (last ++ drop (length now - at) (drop at now))) (j + 1) (used + k)
+    laying-more {k} q =
+        let (_, s, c, w) = fitted-cells g i (getD ns j 0) (room - used) k (sym (e .is) ∙ q) in
+        let n : at ≡ min (length (rowOf g i (take j ns))) (length old) = omega (arith, a, h .many, laying-long h) in
+        record {
+          tally = tallying-more (h .tally) l (e .is) q;
+          many = omega (arith, h .many, c, ap length (row-more ns j l), length-append (rowOf g i (take j ns)) (cells (walk g depth i (getD ns j 0))));
+          holds = rw (row-more ns j l) (then (record { count = n; holds = h .holds }) (record { count = refl; holds = e .holds k q }) p .holds);
+        }
+
+    pub laying-stops : {r : Refusal} → f ≡ Not r → RowOver g i room ns old (take at now ++ (last ++ drop (length now - at) (drop at now))) (Refused r 0 j)
+    unfolding after
+    laying-stops q = record { is = tallying-stops (h .tally) l (e .is) q; long = after-long; holds = λ m c x. let z : _≡_ {A = ℕ} 0 1 = cc in absurd (omega arith) }
+
+  pub laying-done : {room : ℕ} {ns old now : List ℕ} {j used : ℕ} → Laying room ns old now j used → length ns ≤ j → RowOver g i room ns old now (Done j used)
+  laying-done {ns = ns} {old = old} {j = j} h l = record {
+    is = tallying-done (h .tally) l;
+    long = laying-long h;
+    holds = λ m c x. h .holds ∙ rw (take-all j ns l);
+  }
 
   -- ---- a row that is done
   pub onward-done : (f : Fit) (rest : ℕ → Row) {m c : ℕ} → onward f rest ≡ Done m c → (k : ℕ) × (items : ℕ) × (used : ℕ) × (f ≡ Cells k) × (rest k ≡ Done items used) × (m ≡ 1 + items) × (c ≡ k + used)
@@ -111,14 +139,6 @@ module _ (g : Grammar) (i : ℕ) where
       by : (x : Row) → rest k ≡ x → later 1 k x ≡ Done m c → (k' : ℕ) × (items : ℕ) × (used : ℕ) × (Cells k ≡ Cells k') × (rest k' ≡ Done items used) × (m ≡ 1 + items) × (c ≡ k' + used)
       by (Done items used) u v = let s : 1 + items ≡ m = cc in let s' : k + used ≡ c = cc in (k, items, used, refl, u, sym s, sym s')
       by (Refused r n item) u v = let z : _≡_ {A = ℕ} 0 1 = cc in absurd (omega arith)
-
-  pub done-asked : (room : ℕ) (ns : List ℕ) {m c : ℕ} → inTurn g i room ns ≡ Done m c → (j : ℕ) → j < length ns → Asked (g .size i) (getD ns j 0)
-  unfolding inTurn
-  done-asked room [] e j l = absurd (not-suc-le-zero l)
-  done-asked room (n ∷ ns) e zero l = let (k, items, used, f, r, s, s') = onward-done (fitted g i n room) _ e in fitted-cells g i n room k f .0
-  done-asked room (n ∷ ns) e (suc j) l =
-      let (k, items, used, f, r, s, s') = onward-done (fitted g i n room) _ e in
-      done-asked (room - k) ns r j (le-of-suc-le-suc l)
 
   pub done-row : (room : ℕ) (ns : List ℕ) {m c : ℕ} → inTurn g i room ns ≡ Done m c → (m ≡ length ns) × (c ≡ length (rowOf g i ns)) × (c ≤ room)
   unfolding inTurn rowOf

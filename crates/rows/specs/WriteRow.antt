@@ -1,5 +1,6 @@
 -- What `write_row` promises. 01: "items in order; the first that is refused stops the call .. Writing: 12, then the walk with the room left .. A row of no items is done."
 --   inTurn      the answer for the numbers, with a room
+--   RowOver     the same, over a buffer
 --   rowOf       the cases of the numbers "written one after another with no marks between"
 --   writesRow   the answer for a table, its pool, a start node, a room and the numbers
 --   WroteRow    the answer and the buffer's last words, for every input
@@ -15,6 +16,7 @@ use Rattle.grammar.specs.Verdict.{verdict}
 use Rattle.grammar.specs.declared.refusal.Refusal.the-variants.{NoSuchStart}
 use Rattle.walk.specs.Grammar.{Grammar, grammarOf}
 use Rattle.walk.specs.Walk.{walk, cells, depth}
+use Rattle.walk.specs.Filled.{over}
 use Rattle.checked.specs.Fits.{fitted}
 use Rattle.checked.specs.declared.fits.Fit.{Fit}
 use Rattle.checked.specs.declared.fits.Fit.the-variants.{Cells, Not}
@@ -39,6 +41,12 @@ inTurn g i room (n ∷ ns) = onward (fitted g i n room) (λ c. inTurn g i (room 
 unfoldable pub rowOf : Grammar → ℕ → List ℕ → List ℕ
 rowOf g i [] = []
 rowOf g i (n ∷ ns) = cells (walk g depth i n) ++ rowOf g i ns
+
+-- the answer for the numbers, and what becomes of a buffer: a row that is done is over its front, as far as that goes
+pub record RowOver (g : Grammar) (i room : ℕ) (ns old last : List ℕ) (r : Row) : Type 0 where
+  pub is : r ≡ inTurn g i room ns
+  pub long : length last ≡ length old
+  pub holds : (m c : ℕ) → r ≡ Done m c → last ≡ over (rowOf g i ns) old
 
 -- 11, then the items
 unfoldable pub writesRowPlanned : List ℕ → List ℕ → ℕ → ℕ → List ℕ → Row

@@ -1,31 +1,48 @@
 // From numbers to a row of cells.
 ghost use mathlib.Core.Path.{_≡_};
-ghost use Prim.Native.Nat.{ℕ, _<_};
-ghost use lib.ListN.{length, getD};
+ghost use Prim.Native.Nat.{ℕ};
+ghost use lib.ListN.{length};
 ghost use Rattle.walk.specs.Grammar.{planned};
 ghost use Rattle.walk.specs.Filled.{over};
 ghost use Rattle.checked.specs.Prepared.{Blank, Planning, Stands};
-ghost use Rattle.checked.specs.Fits.{Asked};
-ghost use Rattle.rows.specs.WriteRow.{inTurn, rowOf, WroteRow, WroteRowPlanned};
+ghost use Rattle.checked.specs.Kept.{Kept};
+ghost use Rattle.rows.specs.WriteRow.{inTurn, rowOf, RowOver, WroteRow, WroteRowPlanned};
+ghost use Rattle.rows.specs.declared.answer.Row.the-variants.{Done};
 use super::answer::Row;
-use checked::fits::DEPTH;
+use checked::copy::copy;
 use checked::fits::Fit;
 use checked::fits::fits;
 use checked::prepared::SMALL;
 use checked::prepared::prepare;
 use grammar::refusal::Refusal;
 use grammar::refusal::Verdict;
-use walk::fill::fill;
+use walk::lay::place;
 
-// "items in order; the first that is refused stops the call": decides without writing.
-fn tally_row(plan: &[u64], pool: &[u64], start: usize, numbers: &[u64], room: usize) -> Row
+// "items in order; the first that is refused stops the call": decides by the room, and writes as much of
+// the row as the lent buffer holds.
+fn lay_row(
+    plan: &[u64],
+    pool: &[u64],
+    start: usize,
+    numbers: &[u64],
+    room: usize,
+    out: &mut [u64],
+) -> Row
     requires { ⌜ Stands (now plan) (now pool) start ⌝ }
-    ensures { λ r. ⌜ r ≡ inTurn (planned (now (plan .entry)) (now (pool .entry))) start room (now (numbers .entry)) ⌝ }
+    ensures { λ r. ⌜ RowOver (planned (now (plan .entry)) (now (pool .entry))) start room (now (numbers .entry)) (now (out .entry)) (now (out .exit)) r ⌝ }
 {
     let mut items: usize = 0;
     let mut used: usize = 0;
     while items < numbers.len() {
-        match fits(plan, pool, start, numbers[items], room - used) {
+        let at = place(used, out.len());
+        match fits(
+            plan,
+            pool,
+            start,
+            numbers[items],
+            room - used,
+            &mut out[at..],
+        ) {
             Fit::Cells(k) => {
                 used += k;
                 items += 1;
@@ -38,28 +55,37 @@ fn tally_row(plan: &[u64], pool: &[u64], start: usize, numbers: &[u64], room: us
     Row::Done(items, used)
 }
 
-// The cases "written one after another with no marks between".
-fn fill_row(plan: &[u64], pool: &[u64], start: usize, numbers: &[u64], cells: &mut [u64])
+// The cells that the deciding walks have kept; or else they are made again, over the buffer itself.
+fn settle_row(
+    plan: &[u64],
+    pool: &[u64],
+    start: usize,
+    numbers: &[u64],
+    kept: &[u64],
+    count: usize,
+    cells: &mut [u64],
+)
     requires { ⌜ Stands (now plan) (now pool) start ⌝ }
-    requires { ⌜ ((j : ℕ) → j < length (now numbers) → Asked (planned (now plan) (now pool) .size start) (getD (now numbers) j 0)) ⌝ }
+    requires { ⌜ ((m : ℕ) × (inTurn (planned (now plan) (now pool)) start (length (now cells)) (now numbers) ≡ Done m count)) ⌝ }
+    requires { ⌜ Kept (rowOf (planned (now plan) (now pool)) start (now numbers)) (now kept) count (length (now cells)) ⌝ }
     ensures { λ _. ⌜ now (cells .exit) ≡ over (rowOf (planned (now (plan .entry)) (now (pool .entry))) start (now (numbers .entry))) (now (cells .entry)) ⌝ }
 {
-    let mut j: usize = 0;
-    let mut used: usize = 0;
-    while j < numbers.len() {
-        let k = fill(plan, pool, start, numbers[j], DEPTH, &mut cells[used..]);
-        used += k;
-        j += 1;
+    if count <= kept.len() {
+        copy(kept, count, cells);
+        return;
     }
+    lay_row(plan, pool, start, numbers, cells.len(), cells);
 }
 
-// The call on an accepted table: 11, then the items. It writes only once the whole row is known to fit.
+// The call on an accepted table: 11, then the items. It decides over a buffer of its own, and writes only
+// once the whole row is known to fit.
 fn write_planned(
     table: &[u64],
     pool: &[u64],
     plan: &[u64],
     start: usize,
     numbers: &[u64],
+    scratch: &mut [u64],
     cells: &mut [u64],
 ) -> Row
     requires { ⌜ Planning (now table) (now pool) (now plan) ⌝ }
@@ -68,9 +94,9 @@ fn write_planned(
     if table.len() / 3 <= start {
         return Row::Refused(Refusal::NoSuchStart, 0, 0);
     }
-    match tally_row(plan, pool, start, numbers, cells.len()) {
+    match lay_row(plan, pool, start, numbers, cells.len(), scratch) {
         Row::Done(items, used) => {
-            fill_row(plan, pool, start, numbers, cells);
+            settle_row(plan, pool, start, numbers, scratch, used, cells);
             Row::Done(items, used)
         }
         Row::Refused(r, k, item) => Row::Refused(r, k, item),
@@ -92,7 +118,10 @@ fn write_row_with(
     let v = prepare(table, pool, plan);
     match v {
         Verdict::Refused(r, k) => Row::Refused(r, k, 0),
-        Verdict::Accepted => write_planned(table, pool, plan, start, numbers, cells),
+        Verdict::Accepted => {
+            let mut scratch = [0u64; 64];
+            write_planned(table, pool, plan, start, numbers, &mut scratch, cells)
+        }
     }
 }
 

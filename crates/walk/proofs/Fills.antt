@@ -1,14 +1,14 @@
 -- A fill of a buffer, and of the part that it left.
 --   then        one list over the front, and then another over what is left, is their sum over the front
---   one, full, nothing   the fills that a visit makes itself
---   same, within         the buffer keeps its length, and the count is within it
+--   nothing        a fill of no words
+--   same, within   the buffer keeps its length, and the count is within it
 -- Assumes nothing.
 use mathlib.Core.Path.{_≡_, refl, sym, ap, _∙_}
 use mathlib.Core.List.{List, [], _∷_, _++_, append-nil}
 use Prim.Native.Nat.{ℕ, suc, _+_, _-_, _≤_, min}
 use native.Mathlib.Nat.{not-suc-le-zero, le-of-suc-le-suc}
 use native.Mathlib.Omega.{arith}
-use lib.ListN.{length, take, drop, set, drop-of-length-le, length-append, length-drop}
+use lib.ListN.{length, take, drop, drop-of-length-le, length-append, length-drop}
 use lib.Seq.{take-all, take-nil}
 use Rattle.walk.specs.Filled.{over, Filled}
 
@@ -69,21 +69,10 @@ module _ {new old last : List ℕ} {r : ℕ} (f : Filled new old last r) where
   pub within : r ≤ length old
   within = omega (arith, f .count)
 
--- no room
-pub full : (new old : List ℕ) → length old ≡ 0 → Filled new old old 0
-full new [] e = record { count = omega arith; holds = sym (over-none new) }
-full new (y ∷ old) e = absurd (omega arith)
-
 -- nothing to show
 pub nothing : (old : List ℕ) → Filled [] old old 0
 unfolding over
 nothing old = record { count = sym (none-min (length old)); holds = refl }
-
--- one cell
-pub one : (x : ℕ) (old : List ℕ) → (length old ≡ 0 → ⊥) → Filled (x ∷ []) old (set old 0 x) 1
-unfolding over
-one x [] h = absurd (h refl)
-one x (y ∷ old) h = record { count = omega arith; holds = refl }
 
 -- a fill, and then a fill of the part that it left
 pub then : {a b old mid part last : List ℕ} {k j : ℕ} → Filled a old mid k → Filled b part last j → part ≡ take (length mid - k) (drop k mid)

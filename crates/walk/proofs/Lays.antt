@@ -5,7 +5,7 @@
 --   laid-plus, laid-two     a shift's part; one walk and then another over what is left
 -- Assumes nothing.
 use mathlib.Core.Path.{_≡_, refl, sym, ap, _∙_}
-use mathlib.Core.List.{List, [], _∷_, _++_, append-nil}
+use mathlib.Core.List.{List, [], _∷_, _++_}
 use Prim.Native.Nat.{ℕ, zero, suc, _+_, _-_, _≤_, _<_, min}
 use native.Mathlib.Nat.{not-suc-le-zero}
 use native.Mathlib.Omega.{arith}
@@ -16,7 +16,7 @@ use Rattle.walk.specs.Filled.{over}
 use Rattle.walk.specs.Laid.{lifted, Laid}
 use Rattle.walk.specs.declared.lay.RoomLeft.{RoomLeft}
 use Rattle.walk.specs.declared.lay.RoomLeft.the-variants.{Left, TooDeep, NoRoom}
-use Rattle.walk.proofs.Fills.{length-over, over-append, part-old, part-rest}
+use Rattle.walk.proofs.Fills.{part-old, part-rest, then}
 use Rattle.walk.proofs.Walks.{One, too-deep, one-cell, tallied-raised, tallied-full, tallied-one, two-left, cells-append}
 
 -- ---- the cells that a room has let through
@@ -119,7 +119,7 @@ module _ {room rest : ℕ} {xs ys : List Event} {old mid part last : List ℕ} {
   two-holds : {m : ℕ} → b ≡ Left m → together ≡ over (cells (xs ++ ys)) old
   two-holds {m} f =
       let s : k ≡ min (length (cells xs)) (length old) = omega (arith, e, h .long) in
-      cc (s, h .holds rest q, g .holds m f, part-is, part-rest k mid, append-nil last, over-append (cells xs) (cells ys) old, cells-append xs ys)
+      rw cells-append (then (record { count = s; holds = h .holds rest q }) (record { count = refl; holds = g .holds m f }) p .holds)
 
   pub laid-two : Laid room (xs ++ ys) old together b
   laid-two = record { is = two-left room xs ys (h .is) q (g .is); long = two-long; holds = λ m f. two-holds f }

@@ -9,13 +9,11 @@ use mathlib.Core.List.{List, [], _∷_, _++_}
 use Prim.Native.Nat.{ℕ, zero, suc, _+_, _*_, _-_, _^_, _≤_}
 use native.Mathlib.Numerals.{sub-one}
 use native.Mathlib.Omega.{arith}
-use lib.ListN.{getD, set}
 use Rattle.grammar.specs.Node.{Node, below, nats, pool, shift, or, cons, dep, except, fix, again, unknown}
 use Rattle.walk.specs.Grammar.{Grammar}
 use Rattle.walk.specs.Visit.{stepOf, visit}
 use Rattle.walk.specs.Walk.{Event, cell, deep, raised, shown, walk, cells}
 use Rattle.walk.specs.Room.{tallied}
-use Rattle.walk.specs.Filled.{over, Filled}
 use Rattle.walk.specs.Good.{Single, Fits, Good}
 use Rattle.walk.specs.declared.step.Step.{Step}
 use Rattle.walk.specs.declared.lay.RoomLeft.{RoomLeft}
@@ -104,26 +102,6 @@ module _ (g : Grammar) (count : ℕ) (good : Good g count) where
       by (fix a) s f ih = absurd s
       by (again a) s f ih = absurd s
       by unknown s f ih = absurd s
-
--- a fill of such a part, and k added to its cell
-pub plus-none : {bound r : ℕ} {es : List Event} {old mid : List ℕ} (k : ℕ) → One bound es → Filled (cells es) old mid r → r ≡ 0 → Filled (cells (raised k es)) old mid 0
-unfolding cells raised over
-plus-none {old = old} k too-deep f e = record { count = omega arith; holds = f .holds }
-plus-none {old = []} k (one-cell c l) f e = record { count = omega arith; holds = f .holds }
-plus-none {old = y ∷ old} k (one-cell c l) f e = absurd (omega (arith, f .count))
-
-pub plus-small : {bound r : ℕ} {es : List Event} {old mid : List ℕ} → One bound es → Filled (cells es) old mid r → (r ≡ 0 → ⊥) → getD mid 0 0 ≤ bound
-unfolding cells over
-plus-small too-deep f h = absurd (h (omega (arith, f .count)))
-plus-small {old = []} (one-cell c l) f h = absurd (h (omega (arith, f .count)))
-plus-small {old = y ∷ old} (one-cell c l) f h = rw (f .holds) l
-
-pub plus-fill : {bound r : ℕ} {es : List Event} {old mid : List ℕ} (k : ℕ) → One bound es → Filled (cells es) old mid r → (r ≡ 0 → ⊥)
-    → Filled (cells (raised k es)) old (set mid 0 (getD mid 0 0 + k)) r
-unfolding cells raised over
-plus-fill k too-deep f h = absurd (h (omega (arith, f .count)))
-plus-fill {old = []} k (one-cell c l) f h = absurd (h (omega (arith, f .count)))
-plus-fill {old = y ∷ old} k (one-cell c l) f h = record { count = f .count; holds = rw (f .holds) }
 
 -- ---- the room through two parts, as the code finds it
 module _ (room : ℕ) (xs ys : List Event) {a : RoomLeft} (e : a ≡ tallied room xs) where

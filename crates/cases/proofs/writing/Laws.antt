@@ -1,11 +1,12 @@
 -- What the code of `write` has found, in the words of its promise.
 --   wrote-11                 refused before the walk
 --   wrote-not, wrote-cells   by what was decided
+--   kept-of                  what the deciding walk kept
 --   wrote-refused, wrote-planned   the call
 -- Assumes nothing.
 use mathlib.Core.Path.{_≡_, refl, sym, ap, _∙_}
 use mathlib.Core.List.{List}
-use Prim.Native.Nat.{ℕ, _^_, _≤_, _<_}
+use Prim.Native.Nat.{ℕ, _≤_, _<_}
 use native.Mathlib.Omega.{arith}
 use lib.ListN.{length}
 use borrow.Author.Tests.{lt-ltb, le-ltb}
@@ -15,14 +16,13 @@ use Rattle.grammar.specs.declared.refusal.Refusal.the-variants.{NoSuchStart}
 use Rattle.grammar.specs.declared.refusal.Verdict.{Verdict}
 use Rattle.grammar.specs.declared.refusal.Verdict.the-variants.{Accepted, Refused as Refuses}
 use Rattle.walk.specs.Grammar.{planned}
-use Rattle.walk.specs.Walk.{walk, cells, depth}
-use Rattle.walk.specs.Filled.{Filled}
-use Rattle.walk.specs.Good.{Visits}
+use Rattle.walk.specs.Filled.{over}
 use Rattle.checked.specs.Prepared.{Planning, Prepared}
-use Rattle.checked.specs.Fits.{fitted}
+use Rattle.checked.specs.Fits.{caseCells, fitted}
+use Rattle.checked.specs.Kept.{Kept}
 use Rattle.checked.specs.declared.fits.Fit.{Fit}
 use Rattle.checked.specs.declared.fits.Fit.the-variants.{Cells, Not}
-use Rattle.checked.proofs.Walking.{same-grammar, walkable}
+use Rattle.checked.proofs.Walking.{same-grammar}
 use Rattle.checked.proofs.Fitted.{fitted-cells}
 use Rattle.cases.specs.Write.{wrote, walks, writes, Wrote, WrotePlanned}
 use Rattle.cases.specs.declared.writing.Written.{Written}
@@ -42,17 +42,16 @@ module _ {t p plan : List ℕ} (h : Planning t p plan) (i n : ℕ) (old : List �
     wrote-not q = record { is = sym (walks-is ∙ ap wrote q); holds = refl }
 
     module _ {k : ℕ} (q : f ≡ Cells k) where
-      pub visits-of : Visits plan p i n
-      visits-of = record { walks = walkable h; node = l; below = fitted-cells (planned plan p) i n (length old) k (sym e ∙ q) .0 .below }
+      fitted-k : fitted (planned plan p) i n (length old) ≡ Cells k
+      fitted-k = sym e ∙ q
 
-      pub asked-small : n < 2 ^ 62
-      asked-small = fitted-cells (planned plan p) i n (length old) k (sym e ∙ q) .0 .small
+      pub kept-of : (first : List ℕ) {kept : List ℕ} → kept ≡ over (caseCells (planned plan p) i n) first → Kept (caseCells (planned plan p) i n) kept k (length old)
+      kept-of first g =
+          let (a, s, c, w) = fitted-cells (planned plan p) i n (length old) k fitted-k in
+          record { old = first; holds = g; many = c; fits = omega arith }
 
-      pub wrote-cells : {last : List ℕ} {m : ℕ} → Filled (cells (walk (planned plan p) depth i n)) old last m → WrotePlanned t p i n old last (Done m)
-      wrote-cells {last} {m} g =
-          let (a, s, c, w) = fitted-cells (planned plan p) i n (length old) k (sym e ∙ q) in
-          let same : m ≡ k = omega (arith, g .count) in
-          record { is = sym (walks-is ∙ ap wrote q ∙ ap Done (sym same)); holds = rw (← same-grammar h) (g .holds) }
+      pub wrote-cells : {last : List ℕ} → last ≡ over (caseCells (planned plan p) i n) old → WrotePlanned t p i n old last (Done k)
+      wrote-cells g = record { is = sym (walks-is ∙ ap wrote q); holds = rw (← same-grammar h) g }
 
 -- ---- the call
 module _ {t p plan : List ℕ} {v : Verdict} (h : Prepared t p plan v) {i n : ℕ} {old : List ℕ} where

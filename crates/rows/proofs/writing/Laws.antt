@@ -16,12 +16,12 @@ use Rattle.grammar.specs.declared.refusal.Verdict.the-variants.{Accepted, Refus
 use Rattle.walk.specs.Grammar.{planned}
 use Rattle.walk.specs.Filled.{over}
 use Rattle.checked.specs.Prepared.{Planning, Prepared}
-use Rattle.checked.specs.Fits.{Asked}
+use Rattle.checked.specs.Kept.{Kept}
 use Rattle.checked.proofs.Walking.{same-grammar}
 use Rattle.rows.specs.WriteRow.{inTurn, rowOf, writesRowPlanned, writesRow, WroteRow, WroteRowPlanned}
 use Rattle.rows.specs.declared.answer.Row.{Row}
 use Rattle.rows.specs.declared.answer.Row.the-variants.{Done, Refused}
-use Rattle.rows.proofs.Turns.{done-asked}
+use Rattle.rows.proofs.Turns.{done-row}
 
 module _ {t p plan : List ℕ} (h : Planning t p plan) (i : ℕ) (ns old : List ℕ) where
   pub row-11 : nodes t ≤ i → WroteRowPlanned t p i ns old old (Refused NoSuchStart 0 0)
@@ -37,8 +37,10 @@ module _ {t p plan : List ℕ} (h : Planning t p plan) (i : ℕ) (ns old : List 
     row-not q = record { is = sym (row-is ∙ q); holds = refl }
 
     module _ {m c : ℕ} (q : r ≡ Done m c) where
-      pub row-asked : (j : ℕ) → j < length ns → Asked (planned plan p .size i) (getD ns j 0)
-      row-asked j k = done-asked (planned plan p) i (length old) ns (sym e ∙ q) j k
+      pub row-kept : (first : List ℕ) {kept : List ℕ} → kept ≡ over (rowOf (planned plan p) i ns) first → Kept (rowOf (planned plan p) i ns) kept c (length old)
+      row-kept first g =
+          let (x, y, z) = done-row (planned plan p) i (length old) ns (sym e ∙ q) in
+          record { old = first; holds = g; many = sym y; fits = z }
 
       pub row-cells : {last : List ℕ} → last ≡ over (rowOf (planned plan p) i ns) old → WroteRowPlanned t p i ns old last (Done m c)
       row-cells f = record { is = sym (row-is ∙ q); holds = rw (← same-grammar h) f }

@@ -1,0 +1,14 @@
+-- What a deciding walk has kept of the cells that it let through.
+--   Kept    as many cells as the buffer had room for, and their count, which fits a room
+-- Assumes nothing.
+use mathlib.Core.Path.{_≡_}
+use mathlib.Core.List.{List}
+use Prim.Native.Nat.{ℕ, _≤_}
+use lib.ListN.{length}
+use Rattle.walk.specs.Filled.{over}
+
+pub record Kept (cs kept : List ℕ) (count room : ℕ) : Type 0 where
+  pub old : List ℕ
+  pub holds : kept ≡ over cs old
+  pub many : length cs ≡ count
+  pub fits : count ≤ room
