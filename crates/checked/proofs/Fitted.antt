@@ -1,5 +1,5 @@
 -- What `fitted` says of a walk.
---   is-asked, was-asked   a number that may be asked for, and its test
+--   is-asked       a number that may be asked for, and its test
 --   fitted-is      the walk meets cells only and they are few enough, so they are counted
 --   fitted-cells   the cells are counted, so the number may be asked for, and its walk meets cells only
 -- Assumes nothing.
@@ -11,11 +11,10 @@ use native.Mathlib.Nat.{not-suc-le-zero, le-of-suc-le-suc}
 use native.Mathlib.Omega.{arith}
 use lib.Dec.{ltb}
 use lib.ListN.{length}
-use borrow.Author.Tests.{lt-ltb, ltb-true}
+use borrow.Author.Tests.{lt-ltb}
 use Rattle.numbers.specs.Pick.{pick}
 use Rattle.numbers.specs.Size.{Size, finite, endless}
 use Rattle.grammar.specs.declared.refusal.Refusal.the-variants.{NoSuchNumber}
-use Rattle.grammar.proofs.Tests.{and-left, and-right}
 use Rattle.walk.specs.Grammar.{Grammar}
 use Rattle.walk.specs.Walk.{Event, cell, deep, walk, cells, depth}
 use Rattle.walk.specs.Room.{tallied}
@@ -24,14 +23,11 @@ use Rattle.walk.specs.declared.lay.RoomLeft.the-variants.{Left, TooDeep, NoRoom
 use Rattle.checked.specs.Fits.{asked, Asked, roomFor, outcome, fitted}
 use Rattle.checked.specs.declared.fits.Fit.the-variants.{Cells, Not}
 use Rattle.walk.proofs.Lays.{tally-count}
+use Rattle.checked.proofs.Fitting.{was-asked}
 
 pub is-asked : (s : Size) (n : ℕ) → Asked s n → asked s n ≡ true
 is-asked (finite m) n a = rw (lt-ltb n m (a .below), lt-ltb n (2 ^ 62) (a .small))
 is-asked endless n a = lt-ltb n (2 ^ 62) (a .small)
-
-pub was-asked : (s : Size) (n : ℕ) → asked s n ≡ true → Asked s n
-was-asked (finite m) n e = record { below = ltb-true n m (and-left (ltb n m) (ltb n (2 ^ 62)) e); small = ltb-true n (2 ^ 62) (and-right (ltb n m) (ltb n (2 ^ 62)) e) }
-was-asked endless n e = record { below = tt; small = ltb-true n (2 ^ 62) e }
 
 -- ---- events that are cells and nothing else
 pub cells-map : (cs : List ℕ) → cells (map cell cs) ≡ cs

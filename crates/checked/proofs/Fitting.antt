@@ -1,6 +1,7 @@
 -- What the code of `fits` has found, in the words of its promise.
---   fits-12, fits-12-large  refused before the walk
---   visits-of               else the walk may be made
+--   asked-large, asked-small   the test of a number, as the code makes it
+--   fits-12                    refused before the walk
+--   visits-of, may             else the walk may be made
 --   fits-13, fits-14, fits-cells   by what the walk met
 -- Assumes nothing.
 use mathlib.Core.Path.{_≡_, refl, sym, ap, _∙_}
@@ -10,11 +11,12 @@ use Prim.Native.Nat.{ℕ, _+_, _*_, _-_, _^_, _≤_, _<_}
 use native.Mathlib.Omega.{arith}
 use lib.Dec.{ltb}
 use lib.ListN.{getD}
-use borrow.Author.Tests.{lt-ltb, le-ltb}
-use Rattle.numbers.specs.Size.{Size, sizeOf, Below, below}
+use borrow.Author.Tests.{lt-ltb, le-ltb, ltb-true}
+use Rattle.numbers.specs.Size.{Size, finite, endless, sizeOf, below}
 use Rattle.numbers.proofs.size.Laws.{by-size}
 use Rattle.grammar.specs.declared.refusal.Refusal.{Refusal}
 use Rattle.grammar.specs.declared.refusal.Refusal.the-variants.{NoSuchNumber, TooDeep, NoRoom}
+use Rattle.grammar.proofs.Tests.{and-left, and-right}
 use Rattle.walk.specs.Grammar.{planned}
 use Rattle.walk.specs.Walk.{walk, depth}
 use Rattle.walk.specs.Room.{tallied}
@@ -23,42 +25,46 @@ use Rattle.walk.specs.Good.{Visits}
 use Rattle.walk.specs.declared.lay.RoomLeft.{RoomLeft}
 use Rattle.walk.specs.declared.lay.RoomLeft.the-variants.{Left, TooDeep as Deep, NoRoom as Full}
 use Rattle.checked.specs.Prepared.{Stands}
-use Rattle.checked.specs.Fits.{asked, roomFor, outcome, fitted, FitOver}
+use Rattle.checked.specs.Fits.{asked, Asked, roomFor, outcome, fitted, FitOver}
 use Rattle.checked.specs.declared.fits.Fit.the-variants.{Cells, Not}
 
 -- ---- a number against the word of a size
-not-below : (w n : ℕ) → w ≤ n → asked (sizeOf w) n ≡ false
-not-below w n h = by-size (λ s. asked s n ≡ false) w (λ f. rw (le-ltb n w h)) (λ f. le-ltb n (2 ^ 62) (omega arith))
+module _ (w n : ℕ) where
+  pub asked-large : 2 ^ 62 ≤ n → false ≡ asked (sizeOf w) n
+  asked-large h = by (below n (sizeOf w))
+    where
+      by : (q : Bool) → false ≡ (q && ltb n (2 ^ 62))
+      by true = sym (le-ltb n (2 ^ 62) h)
+      by false = refl
 
-too-large : (s : Size) (n : ℕ) → 2 ^ 62 ≤ n → asked s n ≡ false
-too-large s n h = by (below n s)
-  where
-    by : (q : Bool) → (q && ltb n (2 ^ 62)) ≡ false
-    by true = le-ltb n (2 ^ 62) h
-    by false = refl
+  pub asked-small : n < 2 ^ 62 → ltb n w ≡ asked (sizeOf w) n
+  asked-small h = by-size (λ s. ltb n w ≡ asked s n) w (λ f. rw (lt-ltb n (2 ^ 62) h) (and-true (ltb n w))) (λ f. rw (lt-ltb n (2 ^ 62) h) (lt-ltb n w (omega arith)))
+    where
+      and-true : (a : Bool) → a ≡ (a && true)
+      and-true true = refl
+      and-true false = refl
 
-is-asked : (w n : ℕ) → n < w → n < 2 ^ 62 → asked (sizeOf w) n ≡ true
-is-asked w n h k = by-size (λ s. asked s n ≡ true) w (λ f. rw (lt-ltb n w h, lt-ltb n (2 ^ 62) k)) (λ f. lt-ltb n (2 ^ 62) k)
+-- a number that passes the test
+pub was-asked : (s : Size) (n : ℕ) → asked s n ≡ true → Asked s n
+was-asked (finite m) n e = record { below = ltb-true n m (and-left (ltb n m) (ltb n (2 ^ 62)) e); small = ltb-true n (2 ^ 62) (and-right (ltb n m) (ltb n (2 ^ 62)) e) }
+was-asked endless n e = record { below = tt; small = ltb-true n (2 ^ 62) e }
 
--- ---- refused before the walk: the buffer is as it was
-module _ {plan p : List ℕ} {i : ℕ} (h : Stands plan p i) (n room : ℕ) where
-  refused-12 : {old : List ℕ} → asked (planned plan p .size i) n ≡ false → FitOver (planned plan p) i n room old old (Not NoSuchNumber)
+module _ {plan p : List ℕ} {i : ℕ} (h : Stands plan p i) (n room : ℕ) {b : Bool} (a : b ≡ asked (sizeOf (getD plan (4 * i + 3) 0)) n) where
+  -- ---- refused before the walk: the buffer is as it was
+  pub fits-12 : {old : List ℕ} → b ≡ false → FitOver (planned plan p) i n room old old (Not NoSuchNumber)
   unfolding fitted
-  refused-12 e = record { is = rw e; long = refl; holds = λ k q. let z : _≡_ {A = ℕ} 0 1 = cc in absurd (omega arith); kept = λ _. refl }
-
-  pub fits-12 : {old : List ℕ} → getD plan (4 * i + 3) 0 ≤ n → FitOver (planned plan p) i n room old old (Not NoSuchNumber)
-  fits-12 k = refused-12 (not-below (getD plan (4 * i + 3) 0) n k)
-
-  pub fits-12-large : {old : List ℕ} → 2 ^ 62 ≤ n → FitOver (planned plan p) i n room old old (Not NoSuchNumber)
-  fits-12-large k = refused-12 (too-large (planned plan p .size i) n k)
+  fits-12 e = record { is = rw (← a, e); long = refl; holds = λ k q. let z : _≡_ {A = ℕ} 0 1 = cc in absurd (omega arith); kept = λ _. refl }
 
   -- ---- by what the walk met
-  module _ (b : n < getD plan (4 * i + 3) 0) (k : n < 2 ^ 62) where
-    pub visits-of : Visits plan p i n
-    visits-of = record { walks = h .walks; node = h .node; below = by-size (Below n) (getD plan (4 * i + 3) 0) (λ f. b) (λ f. tt) }
-
+  module _ (yes : b ≡ true) where
     is-so : asked (planned plan p .size i) n ≡ true
-    is-so = is-asked (getD plan (4 * i + 3) 0) n b k
+    is-so = sym a ∙ yes
+
+    pub may : Asked (planned plan p .size i) n
+    may = was-asked (planned plan p .size i) n is-so
+
+    pub visits-of : Visits plan p i n
+    visits-of = record { walks = h .walks; node = h .node; below = may .below }
 
     fitted-is : fitted (planned plan p) i n room ≡ outcome (roomFor room) (tallied (roomFor room) (walk (planned plan p) depth i n))
     unfolding fitted

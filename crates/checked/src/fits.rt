@@ -1,8 +1,10 @@
 // One number on a checked table: "12, then the walk with the room left".
 ghost use mathlib.Core.Path.{_≡_};
+ghost use Rattle.numbers.specs.Size.{sizeOf};
 ghost use Rattle.walk.specs.Grammar.{planned};
 ghost use Rattle.checked.specs.Prepared.{Stands};
 ghost use Rattle.checked.specs.Fits.{roomFor, FitOver};
+ghost use Rattle.checked.specs.Fits.{asked as isAsked};
 use grammar::refusal::Refusal;
 use numbers::size::LARGEST;
 use walk::lay::RoomLeft;
@@ -26,6 +28,16 @@ fn room_for(room: usize) -> usize
     if room < MOST_CELLS { room } else { MOST_CELLS }
 }
 
+// "Numbers asked for are below 2^62 and below the size."
+fn asked(size: u64, number: u64) -> bool
+    ensures { λ r. ⌜ r ≡ isAsked (sizeOf size) number ⌝ }
+{
+    if number < LARGEST {
+        return number < size;
+    }
+    false
+}
+
 // Decides by the room, and writes as much of the case as the lent buffer holds: a call that decides first
 // lends one of its own.
 pub fn fits(
@@ -39,16 +51,13 @@ pub fn fits(
     requires { ⌜ Stands (now plan) (now pool) start ⌝ }
     ensures { λ r. ⌜ FitOver (planned (now (plan .entry)) (now (pool .entry))) start number room (now (out .entry)) (now (out .exit)) r ⌝ }
 {
-    if plan[4 * start + 3] <= number {
-        return Fit::Not(Refusal::NoSuchNumber);
+    if asked(plan[4 * start + 3], number) {
+        let most = room_for(room);
+        return match lay(plan, pool, start, number, DEPTH, most, out) {
+            RoomLeft::Left(rest) => Fit::Cells(most - rest),
+            RoomLeft::TooDeep => Fit::Not(Refusal::TooDeep),
+            RoomLeft::NoRoom => Fit::Not(Refusal::NoRoom),
+        };
     }
-    if LARGEST <= number {
-        return Fit::Not(Refusal::NoSuchNumber);
-    }
-    let most = room_for(room);
-    match lay(plan, pool, start, number, DEPTH, most, out) {
-        RoomLeft::Left(rest) => Fit::Cells(most - rest),
-        RoomLeft::TooDeep => Fit::Not(Refusal::TooDeep),
-        RoomLeft::NoRoom => Fit::Not(Refusal::NoRoom),
-    }
+    Fit::Not(Refusal::NoSuchNumber)
 }
