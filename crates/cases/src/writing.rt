@@ -11,10 +11,12 @@ ghost use Rattle.cases.specs.Write.{Wrote, WrotePlanned};
 use checked::copy::copy;
 use checked::fits::Fit;
 use checked::fits::fits;
+use checked::fits::room_for;
 use checked::prepared::SMALL;
 use checked::prepared::prepare;
 use grammar::refusal::Refusal;
 use grammar::refusal::Verdict;
+use walk::sure::sure;
 
 // The count of cells, or the refusal and its node.
 pub enum Written {
@@ -44,8 +46,9 @@ fn settle(
     fits(plan, pool, start, number, cells.len(), cells);
 }
 
-// The call on an accepted table: 11, then 12, then the walk. It decides over a buffer of its own, and
-// writes only once the case is known to fit.
+// The call on an accepted table: 11, then 12, then the walk. Where every case of the start fits, the walk
+// is over the lent buffer; else it decides over a buffer of its own, and writes only once the case is
+// known to fit.
 fn write_planned(
     table: &[u64],
     pool: &[u64],
@@ -60,6 +63,12 @@ fn write_planned(
 {
     if table.len() / 3 <= start {
         return Written::Refused(Refusal::NoSuchStart, 0);
+    }
+    if sure(plan, start, room_for(cells.len())) {
+        return match fits(plan, pool, start, number, cells.len(), cells) {
+            Fit::Cells(count) => Written::Done(count),
+            Fit::Not(refusal) => Written::Refused(refusal, 0),
+        };
     }
     match fits(plan, pool, start, number, cells.len(), scratch) {
         Fit::Cells(k) => {

@@ -22,7 +22,7 @@ pub enum Fit {
 }
 
 // "a longer buffer to write into counts as that long for one case"
-fn room_for(room: usize) -> usize
+pub fn room_for(room: usize) -> usize
     ensures { λ r. ⌜ r ≡ roomFor room ⌝ }
 {
     if room < MOST_CELLS { room } else { MOST_CELLS }

@@ -18,3 +18,4 @@ pub mod Looks
 pub mod Words
 pub mod Back
 pub mod Only
+pub mod Sures

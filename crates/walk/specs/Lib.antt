@@ -11,3 +11,4 @@ pub mod Reading
 pub mod Got
 pub mod Look
 pub mod Trail
+pub mod Sure

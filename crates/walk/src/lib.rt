@@ -5,4 +5,5 @@ pub mod lay;
 pub mod look;
 pub mod number;
 pub mod step;
+pub mod sure;
 pub mod take;

@@ -1,0 +1,44 @@
+-- `walk::sure::width_of` is a width of its node, by its kind.
+-- Assumes nothing.
+use borrow.Author.Needs.{needs}
+use native.Mathlib.Omega.{arith}
+use mathlib.Core.Path.{refl}
+use Rattle.walk.proofs.Sures.{of-part, width-none, width-shift, width-or, width-cons, width-except, width-fix, width-cell}
+use Rattle.walk.proofs.sure.width_of.Statement.{statement}
+use Rattle.walk.proofs.sure.width_of.Tie as tie
+
+pub width-of-spec : {M : Type 1} → statement M
+width-of-spec =
+    tie.close
+    (tie.spec
+    (λ c. search needs)
+    (λ c. search needs)
+    (λ c. search needs)
+    (λ c. search needs)
+    (λ c. search needs)
+    (λ c. search needs)
+    (λ c. search needs)
+    (λ c. search needs)
+    (λ c. search needs)
+    (λ c. search needs)
+    (λ c. search needs)
+    (λ c κs. c .before .before .before .before .before .pre .1 .long)
+    (λ c κs. c .before .before .before .before .before .pre .1 .long)
+    (λ c κs. c .before .before .before .before .before .before .pre .1 .long)
+    (λ c κs. search needs)
+    (λ c. omega (arith, of-part (c .before .before .before .before .before .before .before .before .pre .1) (c .before .before .part2 .ensures) .low, of-part (c .before .before .before .before .before .before .before .before .pre .1) (c .before .part3 .ensures) .low))
+    (λ c κs. search needs)
+    (λ c κs. c .before .before .before .before .before .pre .1 .long)
+    (λ c κs. c .before .before .before .before .before .before .pre .1 .long)
+    (λ c. omega (arith, of-part (c .before .before .before .before .before .before .before .pre .1) (c .before .part4 .ensures) .low, of-part (c .before .before .before .before .before .before .before .pre .1) (c .part5 .ensures) .low))
+    (λ c κs. search needs)
+    (λ c κs. c .before .before .before .before .before .pre .1 .long)
+    (λ c κs. c .before .before .before .before .before .pre .1 .long)
+    (λ c. width-shift (c .before .before .before .before .before .before .pre .1) _ (c .part .ensures) (c .before .match .keys1))
+    (λ c. width-or (c .before .before .before .before .before .before .before .before .before .pre .1) _ (c .before .before .before .part2 .ensures) (c .before .before .part3 .ensures) (c .before .before .before .before .match .keys2) (c .before .larger .ensures) (c .capped .ensures))
+    (λ c. width-cons (c .before .before .before .before .before .before .before .before .pre .1) _ (c .before .before .part4 .ensures) (c .before .part5 .ensures) (c .before .before .before .match .keys3) (c .capped2 .ensures))
+    (λ c. width-none refl)
+    (λ c. width-except (c .before .before .before .before .before .before .pre .1) _ (c .part6 .ensures) (c .before .match .keys5))
+    (λ c. width-fix (c .before .before .before .before .before .before .pre .1) _ (c .part7 .ensures) (c .before .match .keys6))
+    (λ c. width-none refl)
+    (λ c. width-cell (c .before .before .before .before .before .pre .1) _ (c .match .rest .0 .0 .0 .0 .0 .0 .1) (c .match .rest .0 .0 .0 .0 .0 .1) (c .match .rest .0 .0 .0 .0 .1) (c .match .rest .0 .0 .0 .1) (c .match .rest .0 .0 .1) (c .match .rest .0 .1) (c .match .rest .1)))
