@@ -2,21 +2,23 @@
 --   Turns            what `answer_at` says from a place on, in turn, and the bytes of those lines
 --   turns-printed    of a readable text they are the lines of its numbers
 --   cases-printed    so after `opening` has said that cases follow, they are the whole print
+--   left-all, left-further   and each of them is asked for with what the text asks for
 -- Assumes nothing.
 use mathlib.Core.Path.{_≡_, refl, sym, ap, subst, _∙_}
 use mathlib.Core.Bool.{Bool, true, false}
-use mathlib.Core.List.{List, [], _∷_, _++_}
+use mathlib.Core.List.{List, [], _∷_, _++_, append-assoc}
 use mathlib.Core.Option.{Option, none, some, Option·map}
 use Prim.Native.Nat.{ℕ, _≤_, _<_}
 use native.Mathlib.Omega.{arith}
 use lib.Dec.{leb}
 use lib.ListN.{length, take}
 use borrow.Author.Tests.{leb-true, leb-false}
-use Rattle.printing.specs.Input.{oneAt, numbersFrom, inputOf}
-use Rattle.printing.specs.Printed.{started, caseLine, casesOf, judged, told, printed, Opens, Answers}
+use Rattle.printing.specs.Input.{asks, oneAt, numbersFrom, inputOf}
+use Rattle.printing.specs.Printed.{started, caseLine, casesOf, judged, told, printed, Opens, Left, Answers}
 use Rattle.printing.specs.declared.input.One.the-variants.{Number, Not}
 use Rattle.printing.specs.declared.answers.Opened.{Opened}
 use Rattle.printing.specs.declared.answers.Opened.the-variants.{Cases}
+use Rattle.printing.specs.declared.answers.Said.{Said}
 use Rattle.printing.specs.declared.answers.Said.the-variants.{Line, Nothing}
 use Rattle.printing.proofs.input.Numbers.{one-within, numbers-end, numbers-more, numbers-not}
 use Rattle.printing.proofs.answers.Lines.{Lines, lines-of}
@@ -65,3 +67,17 @@ cases-printed {text} k c d i at e {bytes} h =
     let a = accepted k c d i at e in
     let g : Turns text (a .t) (a .p) i at bytes = rw (table-words k c d i at e, pool-words k c d i at e) at h in
     turns-printed text (a .t) (a .p) i g (a .ns) (lines-of text (a .is) .rest) ∙ sym (rw (a .is, a .start))
+
+pub left-all : {text tOld tLast pOld pLast old last : List ℕ} {r : Opened} (k : Opens text tOld tLast pOld pLast old last r) (c d i at : ℕ) (e : r ≡ Cases c d i at)
+    → Left text (take c tLast) (take d pLast) i at
+left-all {text} k c d i at e =
+    let a = accepted k c d i at e in
+    rw (table-words k c d i at e, pool-words k c d i at e) (record { from = at; before = []; ns = a .ns; is = a .is; here = lines-of text (a .is) .rest })
+
+pub left-further : {text t p : List ℕ} {i at : ℕ} → Left text t p i at → {old last : List ℕ} {r : Said} → Answers text at t p i old last r → {size next : ℕ} → r ≡ Line size next → Left text t p i next
+left-further {text} {t} {p} {i} {at} l a {next = next} e =
+    let x = line-printed a e in
+    let w = one-within text at (x .one) in
+    let g = rest-of (x .n) (l .ns) (numbersFrom text next) (sym (numbers-more text at (omega arith) (x .one)) ∙ l .here) in
+    let same : l .before ++ l .ns ≡ (l .before ++ (x .n ∷ [])) ++ g .ms = ap (l .before ++_) (g .all) ∙ sym (append-assoc (l .before) (x .n ∷ []) (g .ms)) in
+    record { from = l .from; before = l .before ++ (x .n ∷ []); ns = g .ms; is = l .is ∙ ap (asks t p i (l .from)) same; here = g .is }

@@ -4,11 +4,13 @@
 --   printed    the whole print of a text
 --   OnPage     a line at the front of a page
 --   Opens      what is printed at once
+--   Left       what `answer_at` is asked is what the text asks for
 --   Answers    what the number at a place prints
 -- Assumes nothing.
 use mathlib.Core.Path.{_≡_}
 use mathlib.Core.Bool.{Bool, true, false}
 use mathlib.Core.List.{List, [], _∷_, _++_}
+use mathlib.Core.Option.{some}
 use Prim.Native.Nat.{ℕ, _≤_}
 use lib.Dec.{ltb}
 use lib.ListN.{length, drop}
@@ -24,7 +26,7 @@ use Rattle.cases.specs.Write.{writes}
 use Rattle.cases.specs.declared.writing.Written.{Written}
 use Rattle.cases.specs.declared.writing.Written.the-variants.{Done, Refused as Refuses}
 use Rattle.printing.specs.Texts.{unreadableText, refusedText, caseText, caseRefusedText}
-use Rattle.printing.specs.Input.{Input, asks, unclear, tableLine, poolStored, oneAt, inputOf}
+use Rattle.printing.specs.Input.{Input, asks, unclear, tableLine, poolStored, oneAt, numbersFrom, inputOf}
 use Rattle.printing.specs.declared.input.One.{One}
 use Rattle.printing.specs.declared.input.One.the-variants.{Number, Not}
 use Rattle.printing.specs.declared.answers.Opened.{Opened}
@@ -102,6 +104,14 @@ pub record Opens (text tableOld tableLast poolOld poolLast pageOld pageLast : Li
   pub pool : poolLast ≡ poolStored text poolOld (tableLine text)
   pub room : length (atOnce (inputOf text)) ≤ length pageOld
   pub page : pageLast ≡ front (atOnce (inputOf text)) pageOld
+
+-- the table, the pool and the start node are the text's, and the numbers from a place on are the last of its numbers
+pub record Left (text t p : List ℕ) (i at : ℕ) : Type 0 where
+  pub from : ℕ
+  pub before : List ℕ
+  pub ns : List ℕ
+  pub is : inputOf text ≡ asks t p i from (before ++ ns)
+  pub here : numbersFrom text at ≡ some ns
 
 -- the line of a number, and the place of the next
 abbrev pub lineOf : List ℕ → List ℕ → ℕ → One → List ℕ

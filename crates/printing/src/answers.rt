@@ -4,7 +4,7 @@ ghost use Prim.Native.Nat.{_≤_};
 ghost use lib.ListN.{length};
 ghost use Rattle.printing.specs.Texts.{caseText};
 ghost use Rattle.printing.specs.Input.{oneAt};
-ghost use Rattle.printing.specs.Printed.{started, room, caseLine, OnPage, Opens, Judges, Answers};
+ghost use Rattle.printing.specs.Printed.{started, room, caseLine, OnPage, Opens, Judges, Left, Answers};
 use super::input::Asked;
 use super::input::One;
 use super::input::POOL_WORDS;
@@ -123,7 +123,8 @@ fn put_answer(
     }
 }
 
-// The number on the line at a place.
+// The number on the line at a place, for the table, pool and start node of the same text: what is
+// written is in no contract, so the caller has to show that it asks for what the text asks for.
 pub fn answer_at(
     text: &[u8],
     at: usize,
@@ -132,6 +133,7 @@ pub fn answer_at(
     first: usize,
     page: &mut [u8; PAGE_BYTES],
 ) -> Said
+    requires { ⌜ Left (now text) (now table) (now pool) first at ⌝ }
     ensures { λ r. ⌜ Answers (now (text .entry)) at (now (table .entry)) (now (pool .entry)) first (now (page .entry)) (now (page .exit)) r ⌝ }
 {
     match one_at(text, at) {

@@ -1,4 +1,5 @@
 // What an input prints, on standard output: a page at a time, whole or not at all from there on.
+ghost use Rattle.printing.specs.Printed.{Left};
 use super::answers::Opened;
 use super::answers::PAGE_BYTES;
 use super::answers::Said;
@@ -36,7 +37,9 @@ fn print_cases(
     pool: &[u64],
     first: usize,
     page: &mut [u8; PAGE_BYTES],
-) {
+)
+    requires { ⌜ Left (now text) (now table) (now pool) first from ⌝ }
+{
     let mut at = from;
     loop {
         match answer_at(text, at, table, pool, first, page) {

@@ -3,6 +3,7 @@
 --   laid-deep, laid-full    refused: what the buffer holds is not said
 --   put-.., lift-..         one cell, and k added to it
 --   laid-plus, laid-two     a shift's part; one walk and then another over what is left
+--   leaf-shows              a part that is its number
 -- Assumes nothing.
 use mathlib.Core.Path.{_≡_, refl, sym, ap, _∙_}
 use mathlib.Core.List.{List, [], _∷_, _++_}
@@ -10,14 +11,20 @@ use Prim.Native.Nat.{ℕ, zero, suc, _+_, _-_, _≤_, _<_, min}
 use native.Mathlib.Nat.{not-suc-le-zero}
 use native.Mathlib.Omega.{arith}
 use lib.ListN.{length, getD, take, drop, set, length-append, length-drop, length-take}
-use Rattle.walk.specs.Walk.{Event, cell, deep, raised, cells}
+use Rattle.grammar.specs.Plan.{sizeIn}
+use Rattle.grammar.proofs.ByKind.{by-kind}
+use Rattle.walk.specs.Grammar.{planned}
+use Rattle.walk.specs.Visit.{stepOf, visit}
+use Rattle.walk.specs.Walk.{Event, cell, deep, raised, shown, walk, cells}
+use Rattle.walk.specs.declared.step.Step.the-variants.{Cell}
 use Rattle.walk.specs.Room.{tallied}
 use Rattle.walk.specs.Filled.{over}
 use Rattle.walk.specs.Laid.{lifted, Laid}
 use Rattle.walk.specs.declared.lay.RoomLeft.{RoomLeft}
 use Rattle.walk.specs.declared.lay.RoomLeft.the-variants.{Left, TooDeep, NoRoom}
+use Rattle.walk.proofs.Nodes.{kindAt, aAt, bAt}
 use Rattle.walk.proofs.Fills.{part-old, part-rest, then}
-use Rattle.walk.proofs.Walks.{One, too-deep, one-cell, tallied-raised, tallied-full, tallied-one, two-left, cells-append}
+use Rattle.walk.proofs.Walks.{walk-shows, One, too-deep, one-cell, tallied-raised, tallied-full, tallied-one, two-left, cells-append}
 
 -- ---- the cells that a room has let through
 pub tally-count : (room : ℕ) (es : List Event) {rest : ℕ} → tallied room es ≡ Left rest → length (cells es) + rest ≡ room
@@ -128,3 +135,16 @@ module _ {room rest : ℕ} {xs ys : List Event} {old mid part last : List ℕ} {
 pub reached : {room rest k : ℕ} (long : ℕ) {xs : List Event} {old mid : List ℕ} {a : RoomLeft} → Laid room xs old mid a → a ≡ Left rest → k ≡ min (room - rest) long
     → k ≡ min (length (cells xs)) long
 reached {room} {rest} {k} long {xs} h q e = let c = tally-count room xs (sym (h .is) ∙ q) in let s : room - rest ≡ length (cells xs) = omega arith in rw s at e
+
+-- ---- a below or a nats shows its number
+module _ (plan p : List ℕ) (i n : ℕ) (k : kindAt plan i < 2) where
+  leaf-step : visit (planned plan p) i n ≡ Cell n
+  unfolding stepOf
+  leaf-step =
+      by-kind (λ v. stepOf (sizeIn plan) p v n ≡ Cell n) (kindAt plan i) (aAt plan i) (bAt plan i) (λ e. refl) (λ e. refl)
+      (λ e. absurd (omega arith)) (λ e. absurd (omega arith)) (λ e. absurd (omega arith)) (λ e. absurd (omega arith)) (λ e. absurd (omega arith))
+      (λ e. absurd (omega arith)) (λ e. absurd (omega arith)) (λ e. absurd (omega arith)) (λ m. refl)
+
+  pub leaf-shows : {d : ℕ} → (d ≡ 0 → ⊥) → walk (planned plan p) d i n ≡ cell n ∷ []
+  unfolding shown
+  leaf-shows f = walk-shows (planned plan p) i n f (sym leaf-step) refl

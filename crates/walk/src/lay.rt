@@ -10,6 +10,7 @@ ghost use Rattle.walk.specs.Good.{Visits};
 use super::follow::follow;
 use super::step::Step;
 use super::step::step_of;
+use grammar::kinds::POOL;
 
 // What is left of the room after the case, or the first of 13 and 14 in walk order.
 pub enum RoomLeft {
@@ -49,6 +50,29 @@ pub fn place(used: usize, long: usize) -> usize
     if used < long { used } else { long }
 }
 
+// A part. A below or a nats shows its number: it is written here, without a visit of its own.
+fn part(
+    plan: &[u64],
+    pool: &[u64],
+    i: usize,
+    n: u64,
+    left: usize,
+    room: usize,
+    out: &mut [u64],
+) -> RoomLeft
+    requires { ⌜ Visits (now plan) (now pool) i n ⌝ }
+    requires { ⌜ (n + left ≤ 2 ^ 62 + 200) × (left ≤ 200) ⌝ }
+    ensures { λ r. ⌜ Laid room (walk (planned (now (plan .entry)) (now (pool .entry))) left i n) (now (out .entry)) (now (out .exit)) r ⌝ }
+{
+    if POOL <= plan[4 * i] {
+        return lay(plan, pool, i, n, left, room, out);
+    }
+    if left == 0 {
+        return RoomLeft::TooDeep;
+    }
+    put(n, room, out)
+}
+
 // "visits the node's parts at one depth more": the walk calls itself on parts, and the depth left falls.
 // "The second part's cells start right after the first part's": the middle of the buffer that remains
 // is lent on for them.
@@ -83,15 +107,15 @@ pub fn lay(
         Step::Tag(t, p, m) => match put(t, room, out) {
             RoomLeft::Left(rest) => {
                 let k = place(1, out.len());
-                lay(plan, pool, p, m, at.left - 1, rest, &mut out[k..])
+                part(plan, pool, p, m, at.left - 1, rest, &mut out[k..])
             }
             RoomLeft::TooDeep => RoomLeft::TooDeep,
             RoomLeft::NoRoom => RoomLeft::NoRoom,
         },
-        Step::Two(p, x, q, y) => match lay(plan, pool, p, x, at.left - 1, room, out) {
+        Step::Two(p, x, q, y) => match part(plan, pool, p, x, at.left - 1, room, out) {
             RoomLeft::Left(rest) => {
                 let k = place(room - rest, out.len());
-                lay(plan, pool, q, y, at.left - 1, rest, &mut out[k..])
+                part(plan, pool, q, y, at.left - 1, rest, &mut out[k..])
             }
             RoomLeft::TooDeep => RoomLeft::TooDeep,
             RoomLeft::NoRoom => RoomLeft::NoRoom,

@@ -11,8 +11,8 @@ use Rattle.numbers.proofs.root.guess.Tie as tie
 zeros : (n : ℕ) → 0 < n → n < 2 ^ 64 → leadingZeros 64 n ≤ 63
 zeros n p h = omega (arith, leading-top 64 n p h .1)
 
-quotient : (b k : ℕ) → b * 2 ^ 24 % 2 ^ 64 / 2 ^ k ≤ b * 2 ^ 24 % 2 ^ 64
-quotient b k = div-le-self (b * 2 ^ 24 % 2 ^ 64) (2 ^ k)
+quotient : (b k : ℕ) → b * 2 ^ 16 % 2 ^ 64 / 2 ^ k ≤ b * 2 ^ 16 % 2 ^ 64
+quotient b k = div-le-self (b * 2 ^ 16 % 2 ^ 64) (2 ^ k)
 
 pub guess-spec : {M : Type 1} → statement M
 guess-spec =
@@ -25,5 +25,5 @@ guess-spec =
     (λ c. search needs)
     (λ c. omega (arith, zeros _ (c .before .pre) (c .before .fits .n .fits)))
     (λ c. omega (arith, zeros _ (c .before .pre) (c .before .fits .n .fits)))
-    (λ c. omega (arith, quotient (c .byte-root .result) (leadingZeros 64 (c .before .args .n) / 2)))
-    (λ c. omega (arith, quotient (c .byte-root .result) (leadingZeros 64 (c .before .args .n) / 2))))
+    (λ c. omega (arith, quotient (c .top-root .result) (leadingZeros 64 (c .before .args .n) / 2)))
+    (λ c. omega (arith, quotient (c .top-root .result) (leadingZeros 64 (c .before .args .n) / 2))))

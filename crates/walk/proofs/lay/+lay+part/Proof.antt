@@ -1,4 +1,4 @@
--- `walk::lay::lay` is the writing walk over a room and a buffer. The measure is the depth left. Each arm's `returns` is put together by the laws of `Lays`.
+-- `walk::lay::lay` is the writing walk over a room and a buffer, and `walk::lay::part` that of a part. The measure is twice the depth left, and one more for a part. Each arm's `returns` is put together by the laws of `Lays`.
 -- Assumes nothing.
 use mathlib.Core.Path.{_≡_, refl, sym, ap, _∙_}
 use Prim.Native.Nat.{ℕ, _+_, _*_, _-_, _^_, _≤_, _<_}
@@ -13,21 +13,28 @@ use Rattle.walk.specs.Good.{Visits}
 use Rattle.walk.specs.declared.step.Step.{Step}
 use Rattle.walk.specs.declared.step.Step.the-variants.{Plus}
 use Rattle.walk.proofs.Walks.{walk-shows, walk-deep, tallied-raised, One, single-one, two-deep, two-full}
-use Rattle.walk.proofs.Lays.{rest-within, laid-deep, laid-full, lift-small, laid-plus, laid-two, reached}
+use Rattle.walk.proofs.Nodes.{in-plan}
+use Rattle.walk.proofs.Lays.{rest-within, laid-deep, laid-full, lift-small, laid-plus, laid-two, reached, leaf-shows}
 use Rattle.walk.proofs.Next.{Next, Next1, next-of, goes-of}
 use Rattle.walk.proofs.lay.lay.Reads as lay
 use Rattle.walk.proofs.lay.lay.Kinds as lay-kinds
-use Rattle.walk.proofs.lay.+lay.Lts-lay as lts
+use Rattle.walk.proofs.lay.+lay+part.Lts-lay as lts
+use Rattle.walk.proofs.lay.part.Reads as part
+use Rattle.walk.proofs.lay.part.Kinds as part-kinds
+use Rattle.walk.proofs.lay.+lay+part.Lts-part as part-lts
 use Rattle.walk.proofs.follow.follow.Reads as follow
 use Rattle.walk.proofs.lay.lift.Reads as lift
 use Rattle.walk.proofs.lay.place.Reads as place
 use Rattle.walk.proofs.lay.put.Reads as put
 use Rattle.walk.proofs.step.step_of.Reads as step-of
-use Rattle.walk.proofs.lay.+lay.{statement}
-use Rattle.walk.proofs.lay.+lay.Tie.{close}
+use Rattle.walk.proofs.lay.+lay+part.{statement}
+use Rattle.walk.proofs.lay.+lay+part.Tie.{close}
 
 abbrev μ-lay : Measures 3 lay-kinds.ps ℕ
-μ-lay κs a = a .1 .1 .1 .1 .0
+μ-lay κs a = 2 * a .1 .1 .1 .1 .0
+
+abbrev μ-part : Measures 3 part-kinds.ps ℕ
+μ-part κs a = 2 * a .1 .1 .1 .1 .0 + 1
 
 module _ (t : ℕ) where
   abbrev at-t : In 3 lay-kinds.ps
@@ -47,6 +54,8 @@ module _ (t : ℕ) where
     lift.Learnt,
     place.Asked,
     place.Learnt,
+    and 3 part-kinds.ps (falls 3 part-kinds.ps _<_ μ-part t) part.Pre,
+    part.Post,
   )
 
   abbrev Visit : Type 0
@@ -62,7 +71,7 @@ module _ (t : ℕ) where
 
   -- a part's call: the depth falls, the part may be visited, and its number has room to grow
   go : (c : Visit) {q m : ℕ} → let a = c .before .before .before .before .before .before .before .args in let f = c .before .before .before .follow .result in Next1 (a .plan .now) (a .pool .now) (a .n) q m
-      → (f .left - 1 < t) × (Visits (a .plan .now) (a .pool .now) q m × ((m + (f .left - 1) ≤ 2 ^ 62 + 200) × (f .left - 1 ≤ 200)))
+      → (2 * (f .left - 1) + 1 < t) × (Visits (a .plan .now) (a .pool .now) q m × ((m + (f .left - 1) ≤ 2 ^ 62 + 200) × (f .left - 1 ≤ 200)))
   go c h =
       let l = c .before .before .before .follow .ensures .le in
       let f = c .before .if1 .left in
@@ -99,7 +108,7 @@ module _ (t : ℕ) where
 
   tag-returns : lts.Need-returns-7 calls at-t lay.Post
   unfolding shown cells
-  tag-returns c = rw (arm (c .before .before .before .before .before .before .before .before .before .before .before .before .before .before .before .before) (c .before .before .before .before .before .before .before .before .before .before .before .before .before .before .t .given .1)) (laid-two (c .before .before .before .before .before .before .before .before .before .before .before .put2 .ensures) (c .before .before .before .before .before .before .before .rest2 .given .1) (c .before .before .lay3 .ensures) (c .before .before .before .before .before .place .ensures) refl)
+  tag-returns c = rw (arm (c .before .before .before .before .before .before .before .before .before .before .before .before .before .before .before .before) (c .before .before .before .before .before .before .before .before .before .before .before .before .before .before .t .given .1)) (laid-two (c .before .before .before .before .before .before .before .before .before .before .before .put2 .ensures) (c .before .before .before .before .before .before .before .rest2 .given .1) (c .before .before .part .ensures) (c .before .before .before .before .before .place .ensures) refl)
 
   tag-deep : lts.Need-returns-8 calls at-t lay.Post
   unfolding shown
@@ -111,18 +120,29 @@ module _ (t : ℕ) where
 
   two-returns : lts.Need-returns-10 calls at-t lay.Post
   unfolding shown
-  two-returns c = rw (arm (c .before .before .before .before .before .before .before .before .before .before .before .before .before .before .before .before .before) (c .before .before .before .before .before .before .before .before .before .before .before .before .before .before .before .p3 .given .1)) (laid-two (c .before .before .before .before .before .before .before .before .before .before .before .lay4 .ensures) (c .before .before .before .before .before .before .before .rest3 .given .1) (c .before .before .lay5 .ensures) (reached _ (c .before .before .before .before .before .before .before .before .before .before .before .lay4 .ensures) (c .before .before .before .before .before .before .before .rest3 .given .1) (c .before .before .before .before .before .place2 .ensures)) refl)
+  two-returns c = rw (arm (c .before .before .before .before .before .before .before .before .before .before .before .before .before .before .before .before .before) (c .before .before .before .before .before .before .before .before .before .before .before .before .before .before .before .p3 .given .1)) (laid-two (c .before .before .before .before .before .before .before .before .before .before .before .part2 .ensures) (c .before .before .before .before .before .before .before .rest3 .given .1) (c .before .before .part3 .ensures) (reached _ (c .before .before .before .before .before .before .before .before .before .before .before .part2 .ensures) (c .before .before .before .before .before .before .before .rest3 .given .1) (c .before .before .before .before .before .place2 .ensures)) refl)
 
   two-too-deep : lts.Need-returns-11 calls at-t lay.Post
   unfolding shown
-  two-too-deep c = rw (arm (c .before .before .before .before .before .before .before .before .before .before) (c .before .before .before .before .before .before .before .before .p3 .given .1)) (laid-deep (c .before .before .before .before .lay4 .ensures .long) (two-deep _ _ _ (c .before .before .before .before .lay4 .ensures .is) (c .enum-told5 .given .1)))
+  two-too-deep c = rw (arm (c .before .before .before .before .before .before .before .before .before .before) (c .before .before .before .before .before .before .before .before .p3 .given .1)) (laid-deep (c .before .before .before .before .part2 .ensures .long) (two-deep _ _ _ (c .before .before .before .before .part2 .ensures .is) (c .enum-told5 .given .1)))
 
   two-no-room : lts.Need-returns-12 calls at-t lay.Post
   unfolding shown
-  two-no-room c = rw (arm (c .before .before .before .before .before .before .before .before .before .before) (c .before .before .before .before .before .before .before .before .p3 .given .1)) (laid-full (c .before .before .before .before .lay4 .ensures .long) (two-full _ _ _ (c .before .before .before .before .lay4 .ensures .is) (c .enum-told6 .given .1)))
+  two-no-room c = rw (arm (c .before .before .before .before .before .before .before .before .before .before) (c .before .before .before .before .before .before .before .before .p3 .given .1)) (laid-full (c .before .before .before .before .part2 .ensures .long) (two-full _ _ _ (c .before .before .before .before .part2 .ensures .is) (c .enum-told6 .given .1)))
 
-pub +lay-spec : {M : Type 1} → statement M
-+lay-spec = close μ-lay λ t. lts.spec (calls t) (at-t t) lay.Post
+module _ (t : ℕ) where
+  abbrev part-t : In 3 part-kinds.ps
+  part-t = and 3 part-kinds.ps (is 3 part-kinds.ps μ-part t) part.Pre
+
+  abbrev part-calls : part-lts.Claims
+  part-calls = (and 3 lay-kinds.ps (falls 3 lay-kinds.ps _<_ μ-lay t) lay.Pre, lay.Post, put.Asked, put.Learnt)
+
+  leaf-deep : part-lts.Need-returns-2 part-calls part-t part.Post
+  unfolding tallied
+  leaf-deep c = laid-deep refl (sym (ap (tallied (c .before .before .before .before .before .before .args .room)) (walk-deep _ _ _ (c .if2 .taken))))
+
+pub +lay+part-spec : {M : Type 1} → statement M
++lay+part-spec = close μ-lay μ-part (λ t. lts.spec (calls t) (at-t t) lay.Post
     (λ c κs. record { pool = c .before .before .before .args .pool .now; walks = c .before .before .before .pre .1 .0 .walks; node = c .before .before .before .pre .1 .0 .node })
     (deep-returns t)
     (λ c κs. (c .before .before .follow .ensures .visits _ _ (c .before .before .before .before .before .before .pre .1 .0), omega (arith, c .before .before .before .before .before .before .pre .1 .1 .0)))
@@ -130,10 +150,10 @@ pub +lay-spec : {M : Type 1} → statement M
     (λ c κs. search needs)
     (λ c. search needs)
     (λ c. omega (arith, c .before .before .before .before .before .if1 .left))
-    (λ c κs. go t (c .before .before .before .before .before) (next t (c .before .before .before .before .before) (c .before .before .before .p .given .1)))
+    (λ c κs. let h = go t (c .before .before .before .before .before) (next t (c .before .before .before .before .before) (c .before .before .before .p .given .1)) in (omega (arith, h .0), h .1))
     (λ c. search needs)
     (λ c. omega (arith, c .before .before .before .before .before .if1 .left))
-    (λ c κs. go t (c .before .before .before .before .before) (next t (c .before .before .before .before .before) (c .before .before .before .p2 .given .1) .0))
+    (λ c κs. let h = go t (c .before .before .before .before .before) (next t (c .before .before .before .before .before) (c .before .before .before .p2 .given .1) .0) in (omega (arith, h .0), h .1))
     (λ c. search needs)
     (λ c κs. let (h, k, s) = next t (c .before .before .before .before .before .before .before .before .before .before .before .before) (c .before .before .before .before .before .before .before .before .before .before .p2 .given .1) in omega (arith, lift-small (one-of t (c .before .before .before .before .before .before .before .before .before .before .before .before) (c .before .before .before .before .before .before .before .before .before .before .p2 .given .1)) (c .before .before .before .before .before .before .lay2 .ensures) (c .before .before .rest .given .1), k, h .near, c .before .before .before .before .before .before .before .before .before .before .before .before .before .before .before .before .before .before .before .pre .1 .1 .0, c .before .before .before .before .before .before .before .before .before .before .before .before .before .before .before .before .before .before .before .pre .1 .1 .1, c .before .before .before .before .before .before .before .before .before .before .before .before .before .before .before .follow .ensures .le))
     (λ c. search needs)
@@ -154,13 +174,13 @@ pub +lay-spec : {M : Type 1} → statement M
     (λ c. omega (arith, c .before .before .before .before .before .if1 .left))
     (λ c κs. go t (c .before .before .before .before .before) (next t (c .before .before .before .before .before) (c .before .before .before .p3 .given .1) .0))
     (λ c. search needs)
-    (λ c. rest-within (c .before .before .before .before .before .lay4 .ensures) (c .before .rest3 .given .1))
+    (λ c. rest-within (c .before .before .before .before .before .part2 .ensures) (c .before .rest3 .given .1))
     (λ c κs. search needs)
     (λ c. omega (arith, c .before .before .before .before .before .before .before .before .before .before .before .before .before .before .if1 .left))
-    (λ c. omega (arith, c .before .place2 .ensures, c .before .before .before .before .before .before .before .lay4 .ensures .long, c .before .before .before .before .before .before .before .before .before .before .before .before .before .before .before .before .before .before .before .before .good))
-    (λ c. omega (arith, c .before .place2 .ensures, c .before .before .before .before .before .before .before .lay4 .ensures .long, c .before .before .before .before .before .before .before .before .before .before .before .before .before .before .before .before .before .before .before .before .good))
-    (λ c. omega (arith, c .before .place2 .ensures, c .before .before .before .before .before .before .before .lay4 .ensures .long, c .before .before .before .before .before .before .before .before .before .before .before .before .before .before .before .before .before .before .before .before .good))
-    (λ c. omega (arith, c .before .place2 .ensures, c .before .before .before .before .before .before .before .lay4 .ensures .long, c .before .before .before .before .before .before .before .before .before .before .before .before .before .before .before .before .before .before .before .before .good))
+    (λ c. omega (arith, c .before .place2 .ensures, c .before .before .before .before .before .before .before .part2 .ensures .long, c .before .before .before .before .before .before .before .before .before .before .before .before .before .before .before .before .before .before .before .before .good))
+    (λ c. omega (arith, c .before .place2 .ensures, c .before .before .before .before .before .before .before .part2 .ensures .long, c .before .before .before .before .before .before .before .before .before .before .before .before .before .before .before .before .before .before .before .before .good))
+    (λ c. omega (arith, c .before .place2 .ensures, c .before .before .before .before .before .before .before .part2 .ensures .long, c .before .before .before .before .before .before .before .before .before .before .before .before .before .before .before .before .before .before .before .before .good))
+    (λ c. omega (arith, c .before .place2 .ensures, c .before .before .before .before .before .before .before .part2 .ensures .long, c .before .before .before .before .before .before .before .before .before .before .before .before .before .before .before .before .before .before .before .before .good))
     (λ c κs. go t (c .before .before .before .before .before .before .before .before .before .before .before .before .before .before) (next t (c .before .before .before .before .before .before .before .before .before .before .before .before .before .before) (c .before .before .before .before .before .before .before .before .before .before .before .before .p3 .given .1) .1))
     (λ c. search needs)
     (λ c. search needs)
@@ -182,7 +202,17 @@ pub +lay-spec : {M : Type 1} → statement M
     (tag-full t)
     (λ c. two-returns t c .long)
     (two-returns t)
-    (λ c. c .before .before .before .before .lay4 .ensures .long)
+    (λ c. c .before .before .before .before .part2 .ensures .long)
     (two-too-deep t)
-    (λ c. c .before .before .before .before .lay4 .ensures .long)
-    (two-no-room t)
+    (λ c. c .before .before .before .before .part2 .ensures .long)
+    (two-no-room t)) λ t. part-lts.spec (part-calls t) (part-t t) part.Post
+    (λ c. omega (arith, in-plan (c .before .before .before .pre .1 .0 .walks) (c .before .before .before .pre .1 .0 .node)))
+    (λ c. omega (arith, in-plan (c .before .before .before .pre .1 .0 .walks) (c .before .before .before .pre .1 .0 .node)))
+    (λ c. omega (arith, in-plan (c .before .before .before .before .pre .1 .0 .walks) (c .before .before .before .before .pre .1 .0 .node)))
+    (λ c κs. (omega (arith, c .before .before .before .before .before .before .pre .0), c .before .before .before .before .before .before .pre .1))
+    (λ c. c .before .before .lay .ensures .long)
+    (λ c. c .before .before .lay .ensures)
+    (leaf-deep t)
+    (λ c κs. search needs)
+    (λ c. c .before .before .put .ensures .long)
+    (λ c. rw (leaf-shows _ _ _ _ (c .before .before .before .before .before .if1 .left) (c .before .before .before .before .if2 .left)) (c .before .before .put .ensures))
