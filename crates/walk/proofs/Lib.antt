@@ -15,6 +15,7 @@ pub mod Lays
 pub mod Walks
 pub mod Next
 pub mod Looks
+pub mod Leaves
 pub mod Words
 pub mod Back
 pub mod Only

@@ -10,5 +10,6 @@ pub mod Good
 pub mod Reading
 pub mod Got
 pub mod Look
+pub mod Leaf
 pub mod Trail
 pub mod Sure

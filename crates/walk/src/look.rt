@@ -60,7 +60,7 @@ pub enum Celled {
 }
 
 // "Needing cell 65,537 is 14 even where the slice ends there", else 15 where the cells run out.
-fn cell_at(cells: &[u64], at: usize, stop: usize) -> Celled
+pub fn cell_at(cells: &[u64], at: usize, stop: usize) -> Celled
     ensures { λ r. ⌜ r ≡ celled (now (cells .entry)) at stop ⌝ }
 {
     if stop <= at {

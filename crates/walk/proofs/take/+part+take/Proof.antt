@@ -1,4 +1,4 @@
--- `walk::take::take` is what the reading walk reads. The measure is the depth left. Each arm's result is put together by the laws of `Takes`.
+-- `walk::take::take` is what the reading walk reads, and `walk::take::part` what is read of a part. The measure is twice the depth left, and one more for a part. Each arm's result is put together by the laws of `Takes`.
 -- Assumes nothing.
 use mathlib.Core.Path.{_≡_, refl, _∙_}
 use mathlib.Core.Logic.{inl}
@@ -15,13 +15,18 @@ use Rattle.walk.specs.Reading.{follow, taken}
 use Rattle.walk.specs.Look.{seen, Reading}
 use Rattle.walk.specs.Got.{DepJoins}
 use Rattle.walk.specs.declared.look.Next.{Next}
+use Rattle.walk.proofs.Nodes.{in-plan}
 use Rattle.walk.proofs.Only.{only}
 use Rattle.walk.proofs.Leads.{Leads, leads-of, on-reads, part-reads, small-how}
 use Rattle.walk.proofs.Chosen.{count-is, dep-joins, second-in, second-reads, second-is, chosen-least, none-big}
 use Rattle.walk.proofs.Takes.{taken-deep, taken-at, told, ends-took, grown-took, both-number, both-big, both-wrong, chosen-number, chosen-wrong}
 use Rattle.walk.proofs.take.take.Reads as take
 use Rattle.walk.proofs.take.take.Kinds as take-kinds
-use Rattle.walk.proofs.take.+take.Lts-take as lts
+use Rattle.walk.proofs.take.part.Reads as part
+use Rattle.walk.proofs.take.part.Kinds as part-kinds
+use Rattle.walk.proofs.take.leaf.Reads as leaf
+use Rattle.walk.proofs.take.+part+take.Lts-part as part-lts
+use Rattle.walk.proofs.take.+part+take.Lts-take as lts
 use Rattle.numbers.proofs.joined.cap.Reads as cap
 use Rattle.walk.proofs.joins.depended.Reads as depended
 use Rattle.walk.proofs.joins.paired.Reads as paired
@@ -30,11 +35,14 @@ use Rattle.walk.proofs.look.next_of.Reads as next-of
 use Rattle.walk.proofs.number.bigger.Reads as bigger
 use Rattle.walk.proofs.number.got_of.Reads as got-of
 use Rattle.walk.proofs.number.grown.Reads as grown
-use Rattle.walk.proofs.take.+take.{statement}
-use Rattle.walk.proofs.take.+take.Tie.{close}
+use Rattle.walk.proofs.take.+part+take.{statement}
+use Rattle.walk.proofs.take.+part+take.Tie.{close}
 
 abbrev μ-take : Measures 3 take-kinds.ps ℕ
-μ-take κs a = a .1 .1 .1 .0
+μ-take κs a = 2 * a .1 .1 .1 .0
+
+abbrev μ-part : Measures 3 part-kinds.ps ℕ
+μ-part κs a = 2 * a .1 .1 .1 .0 + 1
 
 module _ (t : ℕ) where
   abbrev at-t : In 3 take-kinds.ps
@@ -54,6 +62,8 @@ module _ (t : ℕ) where
     take.Post,
     grown.Asked,
     grown.Learnt,
+    and 3 part-kinds.ps (falls 3 part-kinds.ps _<_ μ-part t) part.Pre,
+    part.Post,
     paired.Asked,
     paired.Learnt,
     bigger.Asked,
@@ -81,7 +91,7 @@ module _ (t : ℕ) where
 
   -- a part's call: the depth falls, the part may be read, and shifts have room to grow
   go : (c : Visit) {q o : ℕ} → let a = c .before .before .before .before .before .before .before .args in Reading (a .plan .now) (a .pool .now) q o → o ≤ a .off + 2 ^ 32
-      → (c .before .before .before .follow .result .left - 1 < t) × (Reading (a .plan .now) (a .pool .now) q o × (o + (c .before .before .before .follow .result .left - 1) * 2 ^ 32 ≤ 200 * 2 ^ 32))
+      → (2 * (c .before .before .before .follow .result .left - 1) + 1 < t) × (Reading (a .plan .now) (a .pool .now) q o × (o + (c .before .before .before .follow .result .left - 1) * 2 ^ 32 ≤ 200 * 2 ^ 32))
   go c h l =
       let e = c .before .before .before .follow .ensures .le in
       let f = c .before .if1 .left in
@@ -109,19 +119,19 @@ module _ (t : ℕ) where
       let h = reads-of (c .before .before .before .before .before .before .before .before .before .before .before) in
       let d = leads (c .before .before .before .before .before .before .before .before .before .before .before) (c .before .before .before .before .before .before .before .before .before .a .given .1) in
       let s = h .walks .good .some in
-      both-number _ _ _ _ _ _ (arm (c .before .before .before .before .before .before .before .before .before .before .before) (c .before .before .before .before .before .before .before .before .before .a .given .1)) (s _ (d .0)) (s _ (d .1)) _ _ _ (told (c .before .before .before .before .before .before .take2 .ensures) (c .before .before .before .before .x .given .1)) (omega (arith, c .before .before .before .before .before .before .before .before .before .before .before .before .before .before .follow .ensures .le)) (omega (arith, c .before .before .before .before .before .before .before .before .before .before .before .before .before .before .follow .ensures .le))
-      (c .before .take3 .ensures) (c .paired .ensures)
+      both-number _ _ _ _ _ _ (arm (c .before .before .before .before .before .before .before .before .before .before .before) (c .before .before .before .before .before .before .before .before .before .a .given .1)) (s _ (d .0)) (s _ (d .1)) _ _ _ (told (c .before .before .before .before .before .before .part .ensures) (c .before .before .before .before .x .given .1)) (omega (arith, c .before .before .before .before .before .before .before .before .before .before .before .before .before .before .follow .ensures .le)) (omega (arith, c .before .before .before .before .before .before .before .before .before .before .before .before .before .before .follow .ensures .le))
+      (c .before .part2 .ensures) (c .paired .ensures)
 
   both-large : lts.Need-returns-6 calls at-t take.Post
   both-large c =
       let h = reads-of (c .before .before .before .before .before .before .before .before .before .before .before) in
       let d = leads (c .before .before .before .before .before .before .before .before .before .before .before) (c .before .before .before .before .before .before .before .before .before .a .given .1) in
       let s = h .walks .good .some in
-      both-big _ _ _ _ _ _ (arm (c .before .before .before .before .before .before .before .before .before .before .before) (c .before .before .before .before .before .before .before .before .before .a .given .1)) (s _ (d .0)) (s _ (d .1)) _ _ (told (c .before .before .before .before .before .before .take2 .ensures) (c .before .before .before .before .then .given .1)) (omega (arith, c .before .before .before .before .before .before .before .before .before .before .before .before .before .before .follow .ensures .le))
-      (c .before .take4 .ensures) (c .bigger .ensures)
+      both-big _ _ _ _ _ _ (arm (c .before .before .before .before .before .before .before .before .before .before .before) (c .before .before .before .before .before .before .before .before .before .a .given .1)) (s _ (d .0)) (s _ (d .1)) _ _ (told (c .before .before .before .before .before .before .part .ensures) (c .before .before .before .before .then .given .1)) (omega (arith, c .before .before .before .before .before .before .before .before .before .before .before .before .before .before .follow .ensures .le))
+      (c .before .part3 .ensures) (c .bigger .ensures)
 
   both-fails : lts.Need-returns-7 calls at-t take.Post
-  both-fails c = both-wrong _ _ _ _ _ _ (arm (c .before .before .before .before .before .before .before .before) (c .before .before .before .before .before .before .a .given .1)) (told (c .before .before .before .take2 .ensures) (c .before .r2 .given .1))
+  both-fails c = both-wrong _ _ _ _ _ _ (arm (c .before .before .before .before .before .before .before .before) (c .before .before .before .before .before .before .a .given .1)) (told (c .before .before .before .part .ensures) (c .before .r2 .given .1))
 
   -- a dep's first number is below the first part's size, so it chooses a second
   abbrev Second : Type 0
@@ -130,7 +140,7 @@ module _ (t : ℕ) where
   low : (c : Second) → Below (c .before .x2 .given .0 .0) (sizeIn (c .before .before .before .before .before .before .before .before .before .before .before .before .before .before .before .args .plan .now) (c .before .before .before .before .before .before .a2 .given .0 .0))
   low c =
       let h = reads-of (c .before .before .before .before .before .before .before .before) in
-      only _ _ (h .walks .good) _ _ (leads (c .before .before .before .before .before .before .before .before) (c .before .before .before .before .before .before .a2 .given .1) .0) _ _ _ (inl refl) (told (c .before .before .before .take5 .ensures) (c .before .x2 .given .1) .0) .0
+      only _ _ (h .walks .good) _ _ (leads (c .before .before .before .before .before .before .before .before) (c .before .before .before .before .before .before .a2 .given .1) .0) _ _ _ (inl refl) (told (c .before .before .before .part4 .ensures) (c .before .x2 .given .1) .0) .0
 
   second-of : (c : Second) → let a = c .before .before .before .before .before .before .before .before .before .before .before .before .before .before .before .args in let b = c .before .before .before .before .before .before .a2 .given .0 .1 .0 in let x = c .before .x2 .given .0 .0 in
       (b + x < length (a .pool .now)) × Reading (a .plan .now) (a .pool .now) (getD (a .pool .now) (b + x) 0) 0 × DepJoins (a .plan .now) (a .pool .now) (c .before .before .before .before .before .before .a2 .given .0 .0) b x
@@ -148,21 +158,36 @@ module _ (t : ℕ) where
       let b = c .before .before .before .before .before .before .before .before .before .before .a2 .given .0 .1 .0 in
       let x = c .before .before .before .before .before .x2 .given .0 .0 in
       let le : 2 ^ 62 + (201 - c .before .before .before .before .before .before .before .before .before .before .before .before .before .before .before .before .before .before .before .args .left) ≤ 2 ^ 62 + (201 - (c .before .before .before .before .before .before .before .before .before .before .before .before .before .before .before .follow .result .left - 1)) = omega (arith, c .before .before .before .before .before .before .before .before .before .before .before .before .before .before .before .follow .ensures .le) in
-      chosen-number _ _ _ _ _ _ (arm (c .before .before .before .before .before .before .before .before .before .before .before .before) (c .before .before .before .before .before .before .before .before .before .before .a2 .given .1)) x _ (c .before .take6 .result) (told (c .before .before .before .before .before .before .before .take5 .ensures) (c .before .before .before .before .before .x2 .given .1))
-      (chosen-least b h l s x (low (c .before .before .before .before))) le (omega (arith, c .before .before .before .before .before .before .before .before .before .before .before .before .before .before .before .follow .ensures .le)) (rw (second-is b h l s x (low (c .before .before .before .before))) (c .before .take6 .ensures)) (rw (count-is b h l s) (c .depended .ensures))
+      chosen-number _ _ _ _ _ _ (arm (c .before .before .before .before .before .before .before .before .before .before .before .before) (c .before .before .before .before .before .before .before .before .before .before .a2 .given .1)) x _ (c .before .part5 .result) (told (c .before .before .before .before .before .before .before .part4 .ensures) (c .before .before .before .before .before .x2 .given .1))
+      (chosen-least b h l s x (low (c .before .before .before .before))) le (omega (arith, c .before .before .before .before .before .before .before .before .before .before .before .before .before .before .before .follow .ensures .le)) (rw (second-is b h l s x (low (c .before .before .before .before))) (c .before .part5 .ensures)) (rw (count-is b h l s) (c .depended .ensures))
 
   chosen-large : lts.Need-returns-9 calls at-t take.Post
   chosen-large c =
       let h = reads-of (c .before .before .before .before .before .before .before .before) in
       let (l, s) = leads (c .before .before .before .before .before .before .before .before) (c .before .before .before .before .before .before .a2 .given .1) in
-      let e = told (c .before .before .before .take5 .ensures) (c .before .then2 .given .1) in
+      let e = told (c .before .before .before .part4 .ensures) (c .before .then2 .given .1) in
       absurd (none-big (c .before .before .before .before .before .before .a2 .given .0 .1 .0) h l s (e .0) (only _ _ (h .walks .good) _ _ l _ _ _ (inl refl) (e .2) .0) (omega (arith, e .1)))
 
   chosen-fails : lts.Need-returns-10 calls at-t take.Post
-  chosen-fails c = chosen-wrong _ _ _ _ _ _ (arm (c .before .before .before .before .before .before .before .before) (c .before .before .before .before .before .before .a2 .given .1)) (told (c .before .before .before .take5 .ensures) (c .before .r3 .given .1))
+  chosen-fails c = chosen-wrong _ _ _ _ _ _ (arm (c .before .before .before .before .before .before .before .before) (c .before .before .before .before .before .before .a2 .given .1)) (told (c .before .before .before .part4 .ensures) (c .before .r3 .given .1))
 
-pub +take-spec : {M : Type 1} → statement M
-+take-spec = close μ-take λ t. lts.spec (calls t) (at-t t) take.Post
+module _ (t : ℕ) where
+  abbrev part-t : In 3 part-kinds.ps
+  part-t = and 3 part-kinds.ps (is 3 part-kinds.ps μ-part t) part.Pre
+
+  abbrev part-calls : part-lts.Claims
+  part-calls = (and 3 take-kinds.ps (falls 3 take-kinds.ps _<_ μ-take t) take.Pre, take.Post, leaf.Asked, leaf.Learnt)
+
+pub +part+take-spec : {M : Type 1} → statement M
++part+take-spec = close μ-part μ-take (λ t. part-lts.spec (part-calls t) (part-t t) part.Post
+    (λ c. omega (arith, in-plan (c .before .before .before .pre .1 .0 .walks) (c .before .before .before .pre .1 .0 .node)))
+    (λ c. omega (arith, in-plan (c .before .before .before .pre .1 .0 .walks) (c .before .before .before .pre .1 .0 .node)))
+    (λ c. omega (arith, in-plan (c .before .before .before .before .pre .1 .0 .walks) (c .before .before .before .before .pre .1 .0 .node)))
+    (λ c κs. (omega (arith, c .before .before .before .before .before .pre .0), (c .before .before .before .before .before .pre .1 .0, omega (arith, c .before .before .before .before .before .pre .1 .1))))
+    (λ c. c .take .ensures)
+    (λ c. record { is = taken-deep _ _ _ _ _ (c .if2 .taken) })
+    (λ c κs. omega (arith, in-plan (c .before .before .before .before .before .before .pre .1 .0 .walks) (c .before .before .before .before .before .before .pre .1 .0 .node)))
+    (λ c. c .leaf .ensures .is (c .before .before .if1 .left) _ _ _ (c .before .if2 .left) (omega arith))) λ t. lts.spec (calls t) (at-t t) take.Post
     (λ c κs. let r = c .before .before .before .pre .1 .0 in record { pool = c .before .before .before .args .pool .now; walks = r .walks; node = r .node })
     (deep-returns t)
     (λ c κs. (c .before .before .follow .ensures .reads _ _ (c .before .before .before .before .before .before .pre .1 .0), omega (arith, c .before .before .before .before .before .before .pre .1 .1)))
@@ -175,31 +200,31 @@ pub +take-spec : {M : Type 1} → statement M
     -- On
     (λ c. search needs)
     (λ c. omega arith)
-    (λ c κs. let d = leads t (c .before .before .before .before) (c .before .before .how .given .1) in go t (c .before .before .before .before) (on-reads (reads-of t (c .before .before .before .before)) d) (d .near))
+    (λ c κs. let d = leads t (c .before .before .before .before) (c .before .before .how .given .1) in let h = go t (c .before .before .before .before) (on-reads (reads-of t (c .before .before .before .before)) d) (d .near) in (omega (arith, h .0), h .1))
     (λ c κs. small-how (c .before .before .before .how .given .0 .0) (leads t (c .before .before .before .before .before) (c .before .before .before .how .given .1) .small))
     -- Both
     (λ c. search needs)
     (λ c. omega arith)
-    (λ c κs. go t (c .before .before .before .before) (part-reads (reads-of t (c .before .before .before .before)) (leads t (c .before .before .before .before) (c .before .before .a .given .1) .0)) (omega arith))
+    (λ c κs. let h = go t (c .before .before .before .before) (part-reads (reads-of t (c .before .before .before .before)) (leads t (c .before .before .before .before) (c .before .before .a .given .1) .0)) (omega arith) in (h .0, (h .1 .0, omega (arith, h .1 .1))))
     (λ c. search needs)
     (λ c. omega arith)
-    (λ c κs. go t (c .before .before .before .before .before .before .before .before .before) (part-reads (reads-of t (c .before .before .before .before .before .before .before .before .before)) (leads t (c .before .before .before .before .before .before .before .before .before) (c .before .before .before .before .before .before .before .a .given .1) .1)) (omega arith))
+    (λ c κs. let h = go t (c .before .before .before .before .before .before .before .before .before) (part-reads (reads-of t (c .before .before .before .before .before .before .before .before .before)) (leads t (c .before .before .before .before .before .before .before .before .before) (c .before .before .before .before .before .before .before .a .given .1) .1)) (omega arith) in (h .0, (h .1 .0, omega (arith, h .1 .1))))
     (λ c κs. let d = leads t (c .before .before .before .before .before .before .before .before .before .before) (c .before .before .before .before .before .before .before .before .a .given .1) in let f = reads-of t (c .before .before .before .before .before .before .before .before .before .before) .walks .long in (omega (arith, d .0, f), omega (arith, d .1, f)))
     (λ c. search needs)
     (λ c. omega arith)
-    (λ c κs. go t (c .before .before .before .before .before .before .before .before .before) (part-reads (reads-of t (c .before .before .before .before .before .before .before .before .before)) (leads t (c .before .before .before .before .before .before .before .before .before) (c .before .before .before .before .before .before .before .a .given .1) .1)) (omega arith))
+    (λ c κs. let h = go t (c .before .before .before .before .before .before .before .before .before) (part-reads (reads-of t (c .before .before .before .before .before .before .before .before .before)) (leads t (c .before .before .before .before .before .before .before .before .before) (c .before .before .before .before .before .before .before .a .given .1) .1)) (omega arith) in (h .0, (h .1 .0, omega (arith, h .1 .1))))
     (λ c κs. search needs)
     (λ c. search needs)
     -- Chosen
     (λ c. search needs)
     (λ c. omega arith)
-    (λ c κs. go t (c .before .before .before .before) (part-reads (reads-of t (c .before .before .before .before)) (leads t (c .before .before .before .before) (c .before .before .a2 .given .1) .0)) (omega arith))
+    (λ c κs. let h = go t (c .before .before .before .before) (part-reads (reads-of t (c .before .before .before .before)) (leads t (c .before .before .before .before) (c .before .before .a2 .given .1) .0)) (omega arith) in (h .0, (h .1 .0, omega (arith, h .1 .1))))
     (λ c. search needs)
     (λ c. omega (arith, second-of t c .0, c .before .before .before .before .before .before .before .before .before .before .before .before .before .before .before .good))
     (λ c. omega (arith, second-of t c .0, c .before .before .before .before .before .before .before .before .before .before .before .before .before .before .before .good))
     (λ c. second-of t (c .before) .0)
     (λ c. omega arith)
-    (λ c κs. go t (c .before .before .before .before .before .before .before .before .before .before) (second-of t (c .before .before) .1) (omega arith))
+    (λ c κs. let h = go t (c .before .before .before .before .before .before .before .before .before .before) (second-of t (c .before .before) .1) (omega arith) in (h .0, (h .1 .0, omega (arith, h .1 .1))))
     (λ c κs. second-of t (c .before .before .before) .2)
     (λ c. search needs)
     (λ c. search needs)
