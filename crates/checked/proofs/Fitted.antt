@@ -17,9 +17,7 @@ use Rattle.numbers.specs.Size.{Size, finite, endless}
 use Rattle.grammar.specs.declared.refusal.Refusal.the-variants.{NoSuchNumber}
 use Rattle.walk.specs.Grammar.{Grammar}
 use Rattle.walk.specs.Walk.{Event, cell, deep, walk, cells, depth}
-use Rattle.walk.specs.Room.{tallied}
-use Rattle.walk.specs.declared.lay.RoomLeft.{RoomLeft}
-use Rattle.walk.specs.declared.lay.RoomLeft.the-variants.{Left, TooDeep, NoRoom}
+use Rattle.walk.specs.Room.{RoomLeft, Left, TooDeep, NoRoom, tallied}
 use Rattle.checked.specs.Fits.{asked, Asked, roomFor, outcome, fitted}
 use Rattle.checked.specs.declared.fits.Fit.the-variants.{Cells, Not}
 use Rattle.walk.proofs.Lays.{tally-count}

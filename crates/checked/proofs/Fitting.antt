@@ -11,7 +11,7 @@ use Prim.Native.Nat.{ℕ, _+_, _*_, _-_, _^_, _≤_, _<_}
 use native.Mathlib.Omega.{arith}
 use lib.Dec.{ltb}
 use lib.ListN.{getD}
-use borrow.Author.Tests.{lt-ltb, le-ltb, ltb-true}
+use borrow.Author.Tests.{lt-ltb, le-ltb, ltb-true, ne-eqb}
 use Rattle.numbers.specs.Size.{Size, finite, endless, sizeOf, below}
 use Rattle.numbers.proofs.size.Laws.{by-size}
 use Rattle.grammar.specs.declared.refusal.Refusal.{Refusal}
@@ -20,10 +20,9 @@ use Rattle.grammar.proofs.Tests.{and-left, and-right}
 use Rattle.walk.specs.Grammar.{planned}
 use Rattle.walk.specs.Walk.{walk, depth}
 use Rattle.walk.specs.Room.{tallied}
-use Rattle.walk.specs.Laid.{Laid}
+use Rattle.walk.specs.Laid.{leftOf, Laid}
+use Rattle.walk.proofs.Lays.{word-left}
 use Rattle.walk.specs.Good.{Visits}
-use Rattle.walk.specs.declared.lay.RoomLeft.{RoomLeft}
-use Rattle.walk.specs.declared.lay.RoomLeft.the-variants.{Left, TooDeep as Deep, NoRoom as Full}
 use Rattle.checked.specs.Prepared.{Stands}
 use Rattle.checked.specs.Fits.{asked, Asked, roomFor, outcome, fitted, FitOver}
 use Rattle.checked.specs.declared.fits.Fit.the-variants.{Cells, Not}
@@ -70,15 +69,15 @@ module _ {plan p : List ℕ} {i : ℕ} (h : Stands plan p i) (n room : ℕ) {b :
     unfolding fitted
     fitted-is = rw is-so
 
-    module _ {most : ℕ} {r : RoomLeft} {old last : List ℕ} (f : most ≡ roomFor room) (l : Laid most (walk (planned plan p) depth i n) old last r) where
-      tally-is : tallied (roomFor room) (walk (planned plan p) depth i n) ≡ r
+    module _ {most : ℕ} (w : ℕ) {old last : List ℕ} (f : most ≡ roomFor room) (l : Laid most (walk (planned plan p) depth i n) old last (leftOf w)) where
+      tally-is : tallied (roomFor room) (walk (planned plan p) depth i n) ≡ leftOf w
       tally-is = sym (l .is ∙ rw f)
 
       kept-not : asked (planned plan p .size i) n ≡ false → last ≡ old
       kept-not e = absurd (false≢true (sym e ∙ is-so))
 
       -- a refusal says nothing of the buffer
-      pub fits-not : {u : Refusal} → outcome (roomFor room) r ≡ Not u → FitOver (planned plan p) i n room old last (Not u)
+      fits-not : {u : Refusal} → outcome (roomFor room) (leftOf w) ≡ Not u → FitOver (planned plan p) i n room old last (Not u)
       fits-not q = record {
         is = sym (fitted-is ∙ (ap (outcome (roomFor room)) tally-is ∙ q));
         long = l .long;
@@ -86,16 +85,16 @@ module _ {plan p : List ℕ} {i : ℕ} (h : Stands plan p i) (n room : ℕ) {b :
         kept = kept-not;
       }
 
-      pub fits-13 : r ≡ Deep → FitOver (planned plan p) i n room old last (Not TooDeep)
+      pub fits-13 : w ≡ 2 ^ 63 → FitOver (planned plan p) i n room old last (Not TooDeep)
       fits-13 q = fits-not (rw q)
 
-      pub fits-14 : r ≡ Full → FitOver (planned plan p) i n room old last (Not NoRoom)
-      fits-14 q = fits-not (rw q)
+      pub fits-14 : 2 ^ 63 ≤ w → (w ≡ 2 ^ 63 → ⊥) → FitOver (planned plan p) i n room old last (Not NoRoom)
+      fits-14 u v = fits-not (rw (le-ltb w (2 ^ 63) u, ne-eqb w (2 ^ 63) v))
 
-      pub fits-cells : {rest : ℕ} → r ≡ Left rest → FitOver (planned plan p) i n room old last (Cells (most - rest))
-      fits-cells {rest} q = record {
-        is = sym (fitted-is ∙ rw (tally-is, q, f));
+      pub fits-cells : w < 2 ^ 63 → FitOver (planned plan p) i n room old last (Cells (most - w))
+      fits-cells q = record {
+        is = sym (fitted-is ∙ rw (tally-is, word-left w q, f));
         long = l .long;
-        holds = λ k e. l .holds rest q;
+        holds = λ k e. l .holds w (word-left w q);
         kept = kept-not;
       }

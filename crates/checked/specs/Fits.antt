@@ -16,10 +16,9 @@ use Rattle.numbers.specs.Size.{Size, below, Below}
 use Rattle.grammar.specs.declared.refusal.Refusal.the-variants.{NoSuchNumber, TooDeep, NoRoom}
 use Rattle.walk.specs.Grammar.{Grammar}
 use Rattle.walk.specs.Walk.{walk, cells, depth}
-use Rattle.walk.specs.Room.{tallied, most}
 use Rattle.walk.specs.Filled.{over}
-use Rattle.walk.specs.declared.lay.RoomLeft.{RoomLeft}
-use Rattle.walk.specs.declared.lay.RoomLeft.the-variants.{Left, TooDeep as Deep, NoRoom as Full}
+use Rattle.walk.specs.Room.{RoomLeft, Left, tallied, most}
+use Rattle.walk.specs.Room.{TooDeep as Deep, NoRoom as Full}
 use Rattle.checked.specs.declared.fits.Fit.{Fit}
 use Rattle.checked.specs.declared.fits.Fit.the-variants.{Cells, Not}
 

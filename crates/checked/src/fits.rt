@@ -7,7 +7,7 @@ ghost use Rattle.checked.specs.Fits.{roomFor, FitOver};
 ghost use Rattle.checked.specs.Fits.{asked as isAsked};
 use grammar::refusal::Refusal;
 use numbers::size::LARGEST;
-use walk::lay::RoomLeft;
+use walk::lay::TOO_DEEP;
 use walk::lay::lay;
 
 // "Depth is at most 200. A case has at most 65,536 cells"
@@ -53,11 +53,14 @@ pub fn fits(
 {
     if asked(plan[4 * start + 3], number) {
         let most = room_for(room);
-        return match lay(plan, pool, start, number, DEPTH, most, out) {
-            RoomLeft::Left(rest) => Fit::Cells(most - rest),
-            RoomLeft::TooDeep => Fit::Not(Refusal::TooDeep),
-            RoomLeft::NoRoom => Fit::Not(Refusal::NoRoom),
-        };
+        let rest = lay(plan, pool, start, number, DEPTH, most, out);
+        if rest < TOO_DEEP {
+            return Fit::Cells(most - rest);
+        }
+        if rest == TOO_DEEP {
+            return Fit::Not(Refusal::TooDeep);
+        }
+        return Fit::Not(Refusal::NoRoom);
     }
     Fit::Not(Refusal::NoSuchNumber)
 }

@@ -1,23 +1,23 @@
 -- The items of a row that is read, in turn.
 --   Counting     a row's answer is that of its rest, so many numbers later
---   Storing      and those numbers stand over the buffer's front
+--   Storing      and those numbers stand over the buffer's front, as far as that goes
 --   stood        what stands at a place, of an answer that is found to be s
 -- Assumes nothing.
 use mathlib.Core.Path.{_≡_, refl, sym, ap, subst, _∙_}
 use mathlib.Core.List.{List, [], _∷_, _++_, append-assoc, append-nil}
 use Prim.Native.Nat.{ℕ, zero, suc, _+_, _-_, _≤_, _<_}
-use native.Mathlib.Nat.{not-suc-le-zero, le-of-suc-le-suc}
+use native.Mathlib.Nat.{not-suc-le-zero}
 use native.Mathlib.Omega.{arith}
 use lib.ListN.{length, drop, set, length-append, length-drop, drop-of-length-le}
 use Rattle.grammar.specs.declared.refusal.Refusal.{Refusal}
 use Rattle.grammar.specs.declared.refusal.Refusal.the-variants.{NoRoom}
 use Rattle.walk.specs.Grammar.{Grammar}
 use Rattle.walk.specs.Filled.{over}
-use Rattle.walk.proofs.Fills.{length-over}
 use Rattle.checked.specs.Item.{Front, front, StoodBy, Stood}
 use Rattle.checked.specs.declared.item.Item.{Item}
 use Rattle.checked.specs.declared.item.Item.the-variants.{Number, Not}
-use Rattle.rows.specs.ReadRow.{Gathered, all, stopped, after, full, onward, gather, answered, gotten, Gathers}
+use Rattle.checked.proofs.Copying.{over-long}
+use Rattle.rows.specs.ReadRow.{Gathered, all, stopped, after, full, onward, gather, answered, NumbersOver}
 use Rattle.rows.specs.declared.answer.Row.the-variants.{Done, Refused}
 
 pub stood : {f : Front} {cells : List ℕ} {at : ℕ} {r s : Item} → Stood f cells at r → r ≡ s → StoodBy f cells at s
@@ -107,18 +107,6 @@ module _ (g : Grammar) (i : ℕ) where
       pub counting-stops : {x : Refusal} → r ≡ Not x → Refused x 0 items ≡ answered (length cells) (gather g i room cells)
       counting-stops q = rw (stops-at q)
 
-      -- where all items are read neither is met
-      module _ (a : Gathers (gather g i room cells)) where
-        pub room-for : {n next : ℕ} → r ≡ Number n next → items < room
-        room-for q = by (room - items) refl
-          where
-            by : (left : ℕ) → room - items ≡ left → items < room
-            by zero s = let e : all (a .ns) ≡ stopped NoRoom items = sym (a .is) ∙ full-at q (omega arith) in let z : _≡_ {A = ℕ} 0 1 = cc in absurd (omega arith)
-            by (suc left) s = omega arith
-
-        pub none-stops : {x : Refusal} → r ≡ Not x → ⊥
-        none-stops {x} q = let e : all (a .ns) ≡ stopped x items = sym (a .is) ∙ stops-at q in let z : _≡_ {A = ℕ} 0 1 = cc in omega arith
-
     at-end : length cells ≤ at → gather g i room cells ≡ all (h .ns)
     at-end l = h .rest ∙ rw (drop-of-length-le cells {i = at} l, gather-none (room - items), append-nil)
 
@@ -127,33 +115,46 @@ module _ (g : Grammar) (i : ℕ) where
         let s : length cells ≡ at = omega (arith, h .within) in
         rw (at-end l, h .many, s)
 
-  -- ---- the numbers over the buffer's front
-  pub record Storing (cells old now : List ℕ) (at items : ℕ) : Type 0 where
-    pub counts : Counting (length old) cells at items
+  -- ---- the loop: what is decided, and what the buffer holds
+  pub record Storing (room : ℕ) (cells old now : List ℕ) (at items : ℕ) : Type 0 where
+    pub counts : Counting room cells at items
     pub holds : now ≡ over (counts .ns) old
 
-  pub storing-none : (cells old : List ℕ) → Storing cells old old 0 0
+  pub storing-none : (room : ℕ) (cells old : List ℕ) → Storing room cells old old 0 0
   unfolding over counting-none
-  storing-none cells old = record { counts = counting-none (length old) cells; holds = refl }
+  storing-none room cells old = record { counts = counting-none room cells; holds = refl }
 
-  over-set : (ns old : List ℕ) (n : ℕ) → length ns < length old → set (over ns old) (length ns) n ≡ over (ns ++ (n ∷ [])) old
+  over-set : (ns old : List ℕ) (n : ℕ) → set (over ns old) (length ns) n ≡ over (ns ++ (n ∷ [])) old
   unfolding over
-  over-set [] [] n l = absurd (not-suc-le-zero l)
-  over-set [] (o ∷ old) n l = refl
-  over-set (m ∷ ns) [] n l = absurd (not-suc-le-zero l)
-  over-set (m ∷ ns) (o ∷ old) n l = ap (λ (xs : List ℕ). m ∷ xs) (over-set ns old n (le-of-suc-le-suc l))
+  over-set [] [] n = refl
+  over-set [] (o ∷ old) n = refl
+  over-set (m ∷ ns) [] n = refl
+  over-set (m ∷ ns) (o ∷ old) n = ap (λ (xs : List ℕ). m ∷ xs) (over-set ns old n)
 
-  module _ {cells old now : List ℕ} {at items : ℕ} (h : Storing cells old now at items) where
+  module _ {room : ℕ} {cells old now : List ℕ} {at items : ℕ} (h : Storing room cells old now at items) where
     pub same-length : length now ≡ length old
-    same-length = ap length (h .holds) ∙ length-over (h .counts .ns) old
+    same-length = over-long (h .counts .ns) old (h .holds)
 
-    pub storing-more : at < length cells → {r : Item} → Stood (front g i (drop at cells)) cells at r → {n next : ℕ} → r ≡ Number n next → items < length old
-        → Storing cells old (set now items n) next (items + 1)
-    unfolding counting-more
-    storing-more l w {n} q k =
-        let ns = h .counts .ns in
-        let put : set (over ns old) items n ≡ over (ns ++ (n ∷ [])) old = subst (λ (j : ℕ). set (over ns old) j n ≡ over (ns ++ (n ∷ [])) old) (h .counts .many) (over-set ns old n (omega (arith, h .counts .many))) in
-        record { counts = counting-more (h .counts) l w q k; holds = ap (λ (xs : List ℕ). set xs items n) (h .holds) ∙ put }
+    -- no number is promised
+    unread : {x : Refusal} → Refused x 0 items ≡ answered (length cells) (gather g i room cells) → NumbersOver g i room cells old now (Refused x 0 items)
+    unread e = record { is = e; long = same-length; holds = λ m c y. let z : _≡_ {A = ℕ} 0 1 = cc in absurd (omega arith) }
 
-    pub storing-done : length cells ≤ at → now ≡ over (gotten (gather g i (length old) cells)) old
-    storing-done l = h .holds ∙ rw (at-end (h .counts) l)
+    module _ (l : at < length cells) {r : Item} (w : Stood (front g i (drop at cells)) cells at r) where
+      pub storing-more : {n next : ℕ} {last : List ℕ} → r ≡ Number n next → items < room → last ≡ set now items n → Storing room cells old last next (items + 1)
+      unfolding counting-more
+      storing-more {n} q k e =
+          let put : set now items n ≡ over (h .counts .ns ++ (n ∷ [])) old = rw (h .holds, ← h .counts .many) (over-set (h .counts .ns) old n) in
+          record { counts = counting-more (h .counts) l w q k; holds = e ∙ put }
+
+      pub storing-full : {n next : ℕ} → r ≡ Number n next → room ≤ items → NumbersOver g i room cells old now (Refused NoRoom 0 items)
+      storing-full q k = unread (counting-full (h .counts) l w q k)
+
+      pub storing-stops : {x : Refusal} → r ≡ Not x → NumbersOver g i room cells old now (Refused x 0 items)
+      storing-stops q = unread (counting-stops (h .counts) l w q)
+
+    pub storing-done : length cells ≤ at → NumbersOver g i room cells old now (Done items at)
+    storing-done l = record {
+      is = counting-done (h .counts) l;
+      long = same-length;
+      holds = λ m c x. h .holds ∙ rw (at-end (h .counts) l);
+    }

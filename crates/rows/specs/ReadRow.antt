@@ -1,6 +1,7 @@
 -- What `read_row` promises. 01: "Reading: the walk, then 16, then 14 if the buffer of numbers is full. A row of no items is done."
 --   Gathered    all numbers of a row, or the refusal and the item that stops it
 --   gather      of cells, with a room for numbers
+--   NumbersOver the same, over a buffer
 --   readsRow    the answer for a table, its pool, a start node, a room and the cells
 --   GotRow      the answer and the buffer's last words, for every input
 -- Assumes nothing.
@@ -15,6 +16,7 @@ use Rattle.grammar.specs.Verdict.{verdict}
 use Rattle.grammar.specs.declared.refusal.Refusal.{Refusal}
 use Rattle.grammar.specs.declared.refusal.Refusal.the-variants.{NoSuchStart, NoRoom}
 use Rattle.walk.specs.Grammar.{Grammar, grammarOf}
+use Rattle.walk.specs.Filled.{over}
 use Rattle.checked.specs.Item.{Front, number, refused, front}
 use Rattle.rows.specs.Row.{judged, leaves}
 use Rattle.rows.specs.declared.answer.Row.{Row}
@@ -52,6 +54,12 @@ answered used (stopped r item) = Refused r 0 item
 abbrev pub gotten : Gathered → List ℕ
 gotten (all ns) = ns
 gotten (stopped r item) = []
+
+-- the answer for the cells, and what becomes of a buffer: the numbers of a row that is done are over its front, as far as that goes
+pub record NumbersOver (g : Grammar) (i room : ℕ) (cs old last : List ℕ) (r : Row) : Type 0 where
+  pub is : r ≡ answered (length cs) (gather g i room cs)
+  pub long : length last ≡ length old
+  pub holds : (m c : ℕ) → r ≡ Done m c → last ≡ over (gotten (gather g i room cs)) old
 
 -- 11, then the items
 unfoldable pub readsRowPlanned : List ℕ → List ℕ → ℕ → ℕ → List ℕ → Row

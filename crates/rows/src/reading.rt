@@ -1,11 +1,13 @@
 // From a row of cells to numbers.
 ghost use mathlib.Core.Path.{_≡_};
-ghost use lib.ListN.{length};
+ghost use lib.ListN.{length, set};
 ghost use Rattle.walk.specs.Grammar.{planned};
 ghost use Rattle.walk.specs.Filled.{over};
 ghost use Rattle.checked.specs.Prepared.{Blank, Planning, Stands};
-ghost use Rattle.rows.specs.ReadRow.{gather, answered, Gathers, gotten, GotRow, GotRowPlanned};
+ghost use Rattle.checked.specs.Kept.{Kept};
+ghost use Rattle.rows.specs.ReadRow.{gather, Gathers, gotten, NumbersOver, GotRow, GotRowPlanned};
 use super::answer::Row;
+use checked::copy::copy;
 use checked::item::Item;
 use checked::item::item_at;
 use checked::prepared::SMALL;
@@ -13,19 +15,43 @@ use checked::prepared::prepare;
 use grammar::refusal::Refusal;
 use grammar::refusal::Verdict;
 
-// "the walk, then 16, then 14 if the buffer of numbers is full": decides without storing a number.
-fn count_row(plan: &[u64], pool: &[u64], start: usize, cells: &[u64], room: usize) -> Row
+// The room for numbers of a call's own. A row has no more items than cells: a row of up to 64 cells takes
+// the small one, and does not pay for the large one.
+const FEW: usize = 64;
+
+const MANY: usize = 1024;
+
+// A number at its place, where the lent buffer has that place.
+fn keep(n: u64, items: usize, out: &mut [u64])
+    ensures { λ _. ⌜ now (out .exit) ≡ set (now (out .entry)) items n ⌝ }
+{
+    if items < out.len() {
+        out[items] = n;
+    }
+}
+
+// "the walk, then 16, then 14 if the buffer of numbers is full": decides by the room, and stores as many
+// of the numbers as the lent buffer holds.
+fn gather_row(
+    plan: &[u64],
+    pool: &[u64],
+    start: usize,
+    cells: &[u64],
+    room: usize,
+    out: &mut [u64],
+) -> Row
     requires { ⌜ Stands (now plan) (now pool) start ⌝ }
-    ensures { λ r. ⌜ r ≡ answered (length (now (cells .entry))) (gather (planned (now (plan .entry)) (now (pool .entry))) start room (now (cells .entry))) ⌝ }
+    ensures { λ r. ⌜ NumbersOver (planned (now (plan .entry)) (now (pool .entry))) start room (now (cells .entry)) (now (out .entry)) (now (out .exit)) r ⌝ }
 {
     let mut at: usize = 0;
     let mut items: usize = 0;
     while at < cells.len() {
         match item_at(plan, pool, start, cells, at) {
-            Item::Number(_, next) => {
+            Item::Number(n, next) => {
                 if room <= items {
                     return Row::Refused(Refusal::NoRoom, 0, items);
                 }
+                keep(n, items, out);
                 at = next;
                 items += 1;
             }
@@ -37,35 +63,37 @@ fn count_row(plan: &[u64], pool: &[u64], start: usize, cells: &[u64], room: usiz
     Row::Done(items, at)
 }
 
-// Stores the numbers of a row that is known to be readable and to have room for them.
-fn store_row(plan: &[u64], pool: &[u64], start: usize, cells: &[u64], numbers: &mut [u64])
+// The numbers that the deciding walks have kept; or else they are read again, over the buffer itself.
+fn settle_numbers(
+    plan: &[u64],
+    pool: &[u64],
+    start: usize,
+    cells: &[u64],
+    kept: &[u64],
+    count: usize,
+    numbers: &mut [u64],
+)
     requires { ⌜ Stands (now plan) (now pool) start ⌝ }
     requires { ⌜ Gathers (gather (planned (now plan) (now pool)) start (length (now numbers)) (now cells)) ⌝ }
+    requires { ⌜ Kept (gotten (gather (planned (now plan) (now pool)) start (length (now numbers)) (now cells))) (now kept) count (length (now numbers)) ⌝ }
     ensures { λ _. ⌜ now (numbers .exit) ≡ over (gotten (gather (planned (now (plan .entry)) (now (pool .entry))) start (length (now (numbers .entry))) (now (cells .entry)))) (now (numbers .entry)) ⌝ }
 {
-    let mut place: usize = 0;
-    let mut stored: usize = 0;
-    while place < cells.len() {
-        match item_at(plan, pool, start, cells, place) {
-            Item::Number(n, next) => {
-                numbers[stored] = n;
-                place = next;
-                stored += 1;
-            }
-            Item::Not(_) => {
-                return;
-            }
-        }
+    if count <= kept.len() {
+        copy(kept, count, numbers);
+        return;
     }
+    gather_row(plan, pool, start, cells, numbers.len(), numbers);
 }
 
-// The call on an accepted table: 11, then the items. It stores only once the whole row is known to be readable.
+// The call on an accepted table: 11, then the items. It decides over a buffer of its own, and stores only
+// once the whole row is known to be readable.
 fn read_planned(
     table: &[u64],
     pool: &[u64],
     plan: &[u64],
     start: usize,
     cells: &[u64],
+    scratch: &mut [u64],
     numbers: &mut [u64],
 ) -> Row
     requires { ⌜ Planning (now table) (now pool) (now plan) ⌝ }
@@ -74,9 +102,9 @@ fn read_planned(
     if table.len() / 3 <= start {
         return Row::Refused(Refusal::NoSuchStart, 0, 0);
     }
-    match count_row(plan, pool, start, cells, numbers.len()) {
+    match gather_row(plan, pool, start, cells, numbers.len(), scratch) {
         Row::Done(items, used) => {
-            store_row(plan, pool, start, cells, numbers);
+            settle_numbers(plan, pool, start, cells, scratch, items, numbers);
             Row::Done(items, used)
         }
         Row::Refused(r, k, item) => Row::Refused(r, k, item),
@@ -98,7 +126,14 @@ fn read_row_with(
     let v = prepare(table, pool, plan);
     match v {
         Verdict::Refused(r, k) => Row::Refused(r, k, 0),
-        Verdict::Accepted => read_planned(table, pool, plan, start, cells, numbers),
+        Verdict::Accepted => {
+            if cells.len() <= FEW {
+                let mut scratch = [0u64; FEW];
+                return read_planned(table, pool, plan, start, cells, &mut scratch, numbers);
+            }
+            let mut scratch = [0u64; MANY];
+            read_planned(table, pool, plan, start, cells, &mut scratch, numbers)
+        }
     }
 }
 

@@ -1,15 +1,22 @@
 -- A writing walk over a room and a buffer, put together from those of its parts.
 --   tally-count             the cells that a room has let through
+--   word-left               what a walk hands back, as a word
 --   laid-deep, laid-full    refused: what the buffer holds is not said
+--   two-stops, plus-stops   what stops a part stops the whole
 --   put-.., lift-..         one cell, and k added to it
 --   laid-plus, laid-two     a shift's part; one walk and then another over what is left
 --   leaf-shows              a part that is its number
 -- Assumes nothing.
 use mathlib.Core.Path.{_≡_, refl, sym, ap, _∙_}
+use mathlib.Core.Bool.{Bool, true, false}
+use mathlib.Core.Logic.{_⊎_, inl, inr, ⊎-elim}
 use mathlib.Core.List.{List, [], _∷_, _++_}
-use Prim.Native.Nat.{ℕ, zero, suc, _+_, _-_, _≤_, _<_, min}
+use Prim.Native.Nat.{ℕ, zero, suc, _+_, _-_, _^_, _≤_, _<_, min}
 use native.Mathlib.Nat.{not-suc-le-zero}
 use native.Mathlib.Omega.{arith}
+use lib.Dec.{eqb}
+use borrow.Author.Tests.{lt-ltb, le-ltb}
+use Rattle.numbers.specs.Pick.{pick}
 use lib.ListN.{length, getD, take, drop, set, length-append, length-drop, length-take}
 use Rattle.grammar.specs.Plan.{sizeIn}
 use Rattle.grammar.proofs.ByKind.{by-kind}
@@ -17,14 +24,23 @@ use Rattle.walk.specs.Grammar.{planned}
 use Rattle.walk.specs.Visit.{stepOf, visit}
 use Rattle.walk.specs.Walk.{Event, cell, deep, raised, shown, walk, cells}
 use Rattle.walk.specs.declared.step.Step.the-variants.{Cell}
-use Rattle.walk.specs.Room.{tallied}
 use Rattle.walk.specs.Filled.{over}
-use Rattle.walk.specs.Laid.{lifted, Laid}
-use Rattle.walk.specs.declared.lay.RoomLeft.{RoomLeft}
-use Rattle.walk.specs.declared.lay.RoomLeft.the-variants.{Left, TooDeep, NoRoom}
+use Rattle.walk.specs.Laid.{leftOf, lifted, Laid}
+use Rattle.walk.specs.Room.{RoomLeft, Left, TooDeep, NoRoom, tallied, most}
 use Rattle.walk.proofs.Nodes.{kindAt, aAt, bAt}
 use Rattle.walk.proofs.Fills.{part-old, part-rest, then}
-use Rattle.walk.proofs.Walks.{walk-shows, One, too-deep, one-cell, tallied-raised, tallied-full, tallied-one, two-left, cells-append}
+use Rattle.walk.proofs.Walks.{walk-shows, One, too-deep, one-cell, tallied-raised, tallied-full, tallied-one, two-left, two-deep, two-full, cells-append}
+
+-- ---- the code's word
+pub word-left : (w : ℕ) → w < 2 ^ 63 → leftOf w ≡ Left w
+word-left w l = rw (lt-ltb w (2 ^ 63) l)
+
+word-stops : (w : ℕ) → 2 ^ 63 ≤ w → (leftOf w ≡ TooDeep) ⊎ (leftOf w ≡ NoRoom)
+word-stops w l = rw (le-ltb w (2 ^ 63) l) (by (eqb w (2 ^ 63)))
+  where
+    by : (b : Bool) → (pick b TooDeep NoRoom ≡ TooDeep) ⊎ (pick b TooDeep NoRoom ≡ NoRoom)
+    by true = inl refl
+    by false = inr refl
 
 -- ---- the cells that a room has let through
 pub tally-count : (room : ℕ) (es : List Event) {rest : ℕ} → tallied room es ≡ Left rest → length (cells es) + rest ≡ room
@@ -45,20 +61,34 @@ module _ {room : ℕ} {es : List Event} {old last : List ℕ} (same : length las
   pub laid-full : NoRoom ≡ tallied room es → Laid room es old last NoRoom
   laid-full e = record { is = e; long = same; holds = λ rest q. let z : _≡_ {A = ℕ} 0 1 = cc in absurd (omega arith) }
 
+-- what stops the first walk stops both, and what stops a shift's part stops it
+module _ {room : ℕ} {xs : List Event} {old mid : List ℕ} {w : ℕ} (h : Laid room xs old mid (leftOf w)) (l : 2 ^ 63 ≤ w) where
+  stopped : {es : List Event} → leftOf w ≡ tallied room es → Laid room es old mid (leftOf w)
+  stopped e = ⊎-elim (λ q. rw q (laid-deep (h .long) (sym q ∙ e))) (λ q. rw q (laid-full (h .long) (sym q ∙ e))) (word-stops w l)
+
+  pub two-stops : (ys : List Event) → Laid room (xs ++ ys) old mid (leftOf w)
+  two-stops ys = stopped (⊎-elim (λ q. q ∙ two-deep room xs ys (h .is) q) (λ q. q ∙ two-full room xs ys (h .is) q) (word-stops w l))
+
+  pub plus-stops : (k : ℕ) → Laid room (raised k xs) old mid (leftOf w)
+  plus-stops k = stopped (h .is ∙ sym (tallied-raised room k xs))
+
 -- ---- one cell
 module _ (c : ℕ) {room : ℕ} where
   pub put-full : {old : List ℕ} → room ≡ 0 → Laid room (cell c ∷ []) old old NoRoom
   put-full e = laid-full refl (sym (tallied-full room c [] e))
 
-  module _ (f : room ≡ 0 → ⊥) where
-    pub put-one : (old : List ℕ) → 0 < length old → Laid room (cell c ∷ []) old (set old 0 c) (Left (room - 1))
+  module _ (f : room ≡ 0 → ⊥) (few : room ≤ most) where
+    one-is : leftOf (room - 1) ≡ tallied room (cell c ∷ [])
+    one-is = word-left (room - 1) (omega arith) ∙ tallied-one room c f
+
+    pub put-one : (old : List ℕ) → 0 < length old → Laid room (cell c ∷ []) old (set old 0 c) (leftOf (room - 1))
     unfolding cells over
     put-one [] l = absurd (not-suc-le-zero l)
-    put-one (y ∷ old) l = record { is = tallied-one room c f; long = refl; holds = λ rest q. refl }
+    put-one (y ∷ old) l = record { is = one-is; long = refl; holds = λ rest q. refl }
 
-    pub put-none : (old : List ℕ) → length old ≤ 0 → Laid room (cell c ∷ []) old old (Left (room - 1))
+    pub put-none : (old : List ℕ) → length old ≤ 0 → Laid room (cell c ∷ []) old old (leftOf (room - 1))
     unfolding cells over
-    put-none [] l = record { is = tallied-one room c f; long = refl; holds = λ rest q. refl }
+    put-none [] l = record { is = one-is; long = refl; holds = λ rest q. refl }
     put-none (y ∷ old) l = absurd (omega arith)
 
 module _ (k : ℕ) where
@@ -101,12 +131,12 @@ module _ {bound room : ℕ} {es : List Event} {old mid : List ℕ} {r : RoomLeft
       let m : mid ≡ over (c ∷ []) old = rw e at (h .holds rest q) in
       rw m (over-first c old l)
 
-  pub laid-plus : (k : ℕ) → Laid room (raised k es) old (lifted k mid) (Left rest)
+  pub laid-plus : (k : ℕ) → Laid room (raised k es) old (lifted k mid) r
   unfolding cells raised
   laid-plus k =
       let (c, l, e) = one-left in
       record {
-        is = sym (tallied-raised room k es ∙ (sym (h .is) ∙ q));
+        is = h .is ∙ sym (tallied-raised room k es);
         long = lifted-long k mid ∙ h .long;
         holds = λ _ _. ap (lifted k) (h .holds rest q ∙ ap (λ (xs : List Event). over (cells xs) old) e) ∙ (lifted-over k c old ∙ sym (ap (λ (xs : List Event). over (cells (raised k xs)) old) e));
       }

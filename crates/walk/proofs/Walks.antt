@@ -13,11 +13,9 @@ use Rattle.grammar.specs.Node.{Node, below, nats, pool, shift, or, cons, dep, e
 use Rattle.walk.specs.Grammar.{Grammar}
 use Rattle.walk.specs.Visit.{stepOf, visit}
 use Rattle.walk.specs.Walk.{Event, cell, deep, raised, shown, walk, cells}
-use Rattle.walk.specs.Room.{tallied}
 use Rattle.walk.specs.Good.{Single, Fits, Good}
 use Rattle.walk.specs.declared.step.Step.{Step}
-use Rattle.walk.specs.declared.lay.RoomLeft.{RoomLeft}
-use Rattle.walk.specs.declared.lay.RoomLeft.the-variants.{Left, TooDeep, NoRoom}
+use Rattle.walk.specs.Room.{RoomLeft, Left, TooDeep, NoRoom, tallied}
 use Rattle.walk.proofs.Parts.{Goes}
 
 walk-at : (g : Grammar) (d i n : ℕ) → (d ≡ 0 → ⊥) → walk g d i n ≡ shown (walk g (d - 1)) (visit g i n)

@@ -1,4 +1,5 @@
 -- A walk with a room for cells: "of 13 and 14 the one first met in walk order is given".
+--   RoomLeft   what is left of the room, or 13 or 14
 --   tallied    the room that is left after all cells, or what is met first
 --   most       "A case has at most 65,536 cells"
 --   Case       which cells are the case of a number
@@ -9,8 +10,11 @@ use Prim.Native.Nat.{ℕ, zero, suc, _≤_}
 use lib.ListN.{length}
 use Rattle.walk.specs.Grammar.{Grammar}
 use Rattle.walk.specs.Walk.{Event, cell, deep, walk, depth}
-use Rattle.walk.specs.declared.lay.RoomLeft.{RoomLeft}
-use Rattle.walk.specs.declared.lay.RoomLeft.the-variants.{Left, TooDeep, NoRoom}
+
+pub data RoomLeft : Type 0 where
+  Left : ℕ → RoomLeft
+  TooDeep : RoomLeft
+  NoRoom : RoomLeft
 
 unfoldable pub tallied : ℕ → List Event → RoomLeft
 tallied room [] = Left room

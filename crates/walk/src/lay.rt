@@ -5,32 +5,33 @@ ghost use Prim.Native.Nat.{_+_, _^_, _<_, _≤_, min};
 ghost use lib.ListN.{length, getD};
 ghost use Rattle.walk.specs.Grammar.{planned};
 ghost use Rattle.walk.specs.Walk.{walk, cell};
-ghost use Rattle.walk.specs.Laid.{Laid, lifted};
+ghost use Rattle.walk.specs.Room.{most};
+ghost use Rattle.walk.specs.Laid.{Laid, leftOf, lifted};
 ghost use Rattle.walk.specs.Good.{Visits};
 use super::follow::follow;
 use super::step::Step;
 use super::step::step_of;
 use grammar::kinds::POOL;
 
-// What is left of the room after the case, or the first of 13 and 14 in walk order.
-pub enum RoomLeft {
-    Left(usize),
-    TooDeep,
-    NoRoom,
-}
+// What a walk hands back: what is left of the room after the case; or, from 2^63 on, the first of 13 and
+// 14 in walk order. A word and not an enum: every visit hands one back, and copies of an enum stall.
+pub const TOO_DEEP: usize = 9223372036854775808;
+
+pub const NO_ROOM: usize = 9223372036854775809;
 
 // One cell of the case.
-fn put(c: u64, room: usize, out: &mut [u64]) -> RoomLeft
-    ensures { λ r. ⌜ Laid room (cell c ∷ []) (now (out .entry)) (now (out .exit)) r ⌝ }
+fn put(c: u64, room: usize, out: &mut [u64]) -> usize
+    requires { ⌜ room ≤ most ⌝ }
+    ensures { λ r. ⌜ Laid room (cell c ∷ []) (now (out .entry)) (now (out .exit)) (leftOf r) ⌝ }
 {
     if room == 0 {
-        return RoomLeft::NoRoom;
+        return NO_ROOM;
     }
     if out.len() == 0 {
-        return RoomLeft::Left(room - 1);
+        return room - 1;
     }
     out[0] = c;
-    RoomLeft::Left(room - 1)
+    room - 1
 }
 
 // "shift: the part's cell plus k"
@@ -59,16 +60,16 @@ fn part(
     left: usize,
     room: usize,
     out: &mut [u64],
-) -> RoomLeft
+) -> usize
     requires { ⌜ Visits (now plan) (now pool) i n ⌝ }
-    requires { ⌜ (n + left ≤ 2 ^ 62 + 200) × (left ≤ 200) ⌝ }
-    ensures { λ r. ⌜ Laid room (walk (planned (now (plan .entry)) (now (pool .entry))) left i n) (now (out .entry)) (now (out .exit)) r ⌝ }
+    requires { ⌜ (n + left ≤ 2 ^ 62 + 200) × (left ≤ 200) × (room ≤ most) ⌝ }
+    ensures { λ r. ⌜ Laid room (walk (planned (now (plan .entry)) (now (pool .entry))) left i n) (now (out .entry)) (now (out .exit)) (leftOf r) ⌝ }
 {
     if POOL <= plan[4 * i] {
         return lay(plan, pool, i, n, left, room, out);
     }
     if left == 0 {
-        return RoomLeft::TooDeep;
+        return TOO_DEEP;
     }
     put(n, room, out)
 }
@@ -84,41 +85,41 @@ pub fn lay(
     left: usize,
     room: usize,
     out: &mut [u64],
-) -> RoomLeft
+) -> usize
     requires { ⌜ Visits (now plan) (now pool) i n ⌝ }
-    requires { ⌜ (n + left ≤ 2 ^ 62 + 200) × (left ≤ 200) ⌝ }
-    ensures { λ r. ⌜ Laid room (walk (planned (now (plan .entry)) (now (pool .entry))) left i n) (now (out .entry)) (now (out .exit)) r ⌝ }
+    requires { ⌜ (n + left ≤ 2 ^ 62 + 200) × (left ≤ 200) × (room ≤ most) ⌝ }
+    ensures { λ r. ⌜ Laid room (walk (planned (now (plan .entry)) (now (pool .entry))) left i n) (now (out .entry)) (now (out .exit)) (leftOf r) ⌝ }
 {
     let at = follow(plan, i, left);
     if at.left == 0 {
-        return RoomLeft::TooDeep;
+        return TOO_DEEP;
     }
     match step_of(plan, pool, at.node, n) {
         Step::Cell(c) => put(c, room, out),
         Step::Pass(p, m) => lay(plan, pool, p, m, at.left - 1, room, out),
-        Step::Plus(p, m, k) => match lay(plan, pool, p, m, at.left - 1, room, out) {
-            RoomLeft::Left(rest) => {
-                lift(k, out);
-                RoomLeft::Left(rest)
+        Step::Plus(p, m, k) => {
+            let rest = lay(plan, pool, p, m, at.left - 1, room, out);
+            if TOO_DEEP <= rest {
+                return rest;
             }
-            RoomLeft::TooDeep => RoomLeft::TooDeep,
-            RoomLeft::NoRoom => RoomLeft::NoRoom,
-        },
-        Step::Tag(t, p, m) => match put(t, room, out) {
-            RoomLeft::Left(rest) => {
-                let k = place(1, out.len());
-                part(plan, pool, p, m, at.left - 1, rest, &mut out[k..])
+            lift(k, out);
+            rest
+        }
+        Step::Tag(t, p, m) => {
+            let rest = put(t, room, out);
+            if TOO_DEEP <= rest {
+                return rest;
             }
-            RoomLeft::TooDeep => RoomLeft::TooDeep,
-            RoomLeft::NoRoom => RoomLeft::NoRoom,
-        },
-        Step::Two(p, x, q, y) => match part(plan, pool, p, x, at.left - 1, room, out) {
-            RoomLeft::Left(rest) => {
-                let k = place(room - rest, out.len());
-                part(plan, pool, q, y, at.left - 1, rest, &mut out[k..])
+            let k = place(1, out.len());
+            part(plan, pool, p, m, at.left - 1, rest, &mut out[k..])
+        }
+        Step::Two(p, x, q, y) => {
+            let rest = part(plan, pool, p, x, at.left - 1, room, out);
+            if TOO_DEEP <= rest {
+                return rest;
             }
-            RoomLeft::TooDeep => RoomLeft::TooDeep,
-            RoomLeft::NoRoom => RoomLeft::NoRoom,
-        },
+            let k = place(room - rest, out.len());
+            part(plan, pool, q, y, at.left - 1, rest, &mut out[k..])
+        }
     }
 }

@@ -1,9 +1,9 @@
 -- What the code of `read_row` has found, in the words of its promise.
 --   got-11                 refused before the items
---   got-not, got-numbers   by what was decided
+--   got-not, got-kept, got-numbers   by what was decided
 --   got-refused, got-planned   the call
 -- Assumes nothing.
-use mathlib.Core.Path.{_≡_, refl, sym, _∙_}
+use mathlib.Core.Path.{_≡_, refl, sym, ap, _∙_}
 use mathlib.Core.List.{List}
 use Prim.Native.Nat.{ℕ, _≤_, _<_}
 use native.Mathlib.Omega.{arith}
@@ -17,10 +17,12 @@ use Rattle.grammar.specs.declared.refusal.Verdict.the-variants.{Accepted, Refus
 use Rattle.walk.specs.Grammar.{planned}
 use Rattle.walk.specs.Filled.{over}
 use Rattle.checked.specs.Prepared.{Planning, Prepared}
+use Rattle.checked.specs.Kept.{Kept}
 use Rattle.checked.proofs.Walking.{same-grammar}
 use Rattle.rows.specs.ReadRow.{Gathered, all, stopped, gather, answered, gotten, Gathers, readsRowPlanned, readsRow, GotRow, GotRowPlanned}
 use Rattle.rows.specs.declared.answer.Row.{Row}
 use Rattle.rows.specs.declared.answer.Row.the-variants.{Done, Refused}
+use Rattle.rows.proofs.Cuts.{gathered-fits}
 
 -- an answer that is done: all items were read
 pub answered-done : (used : ℕ) (x : Gathered) {m c : ℕ} → answered used x ≡ Done m c → Gathers x
@@ -43,6 +45,13 @@ module _ {t p plan : List ℕ} (h : Planning t p plan) (i : ℕ) (cs old : List 
     module _ {m c : ℕ} (q : r ≡ Done m c) where
       pub gathers-of : Gathers (gather (planned plan p) i (length old) cs)
       gathers-of = answered-done (length cs) (gather (planned plan p) i (length old) cs) (sym e ∙ q)
+
+      pub got-kept : (first : List ℕ) {kept : List ℕ} → kept ≡ over (gotten (gather (planned plan p) i (length old) cs)) first → Kept (gotten (gather (planned plan p) i (length old) cs)) kept m (length old)
+      got-kept first g =
+          let a = gathers-of in
+          let f : Done (length (a .ns)) (length cs) ≡ Done m c = ap (answered (length cs)) (sym (a .is)) ∙ sym e ∙ q in
+          let s : length (a .ns) ≡ m = cc in
+          record { old = first; holds = g; many = ap (λ (x : Gathered). length (gotten x)) (a .is) ∙ s; fits = omega (arith, gathered-fits (planned plan p) i (length old) cs (a .is), s) }
 
       pub got-numbers : {last : List ℕ} → last ≡ over (gotten (gather (planned plan p) i (length old) cs)) old → GotRowPlanned t p i cs old last (Done m c)
       got-numbers f = record { is = sym (got-is ∙ q); holds = rw (← same-grammar h) f }

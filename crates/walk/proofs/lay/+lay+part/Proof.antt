@@ -12,9 +12,9 @@ use Rattle.walk.specs.Room.{tallied}
 use Rattle.walk.specs.Good.{Visits}
 use Rattle.walk.specs.declared.step.Step.{Step}
 use Rattle.walk.specs.declared.step.Step.the-variants.{Plus}
-use Rattle.walk.proofs.Walks.{walk-shows, walk-deep, tallied-raised, One, single-one, two-deep, two-full}
+use Rattle.walk.proofs.Walks.{walk-shows, walk-deep, One, single-one}
 use Rattle.walk.proofs.Nodes.{in-plan}
-use Rattle.walk.proofs.Lays.{rest-within, laid-deep, laid-full, lift-small, laid-plus, laid-two, reached, leaf-shows}
+use Rattle.walk.proofs.Lays.{word-left, rest-within, laid-deep, two-stops, plus-stops, lift-small, laid-plus, laid-two, reached, leaf-shows}
 use Rattle.walk.proofs.Next.{Next, Next1, next-of, goes-of}
 use Rattle.walk.proofs.lay.lay.Reads as lay
 use Rattle.walk.proofs.lay.lay.Kinds as lay-kinds
@@ -86,49 +86,37 @@ module _ (t : ℕ) where
   unfolding tallied
   deep-returns c = laid-deep refl (sym (ap (tallied (c .before .before .before .before .before .before .args .room)) (c .before .before .follow .ensures .shows _ _ (c .before .before .before .before .before .before .pre .1 .0) ∙ walk-deep _ _ _ (c .if1 .taken))))
 
-  cell-returns : lts.Need-returns-2 calls at-t lay.Post
+  plus-stopped : lts.Need-returns-2 calls at-t lay.Post
+  unfolding shown
+  plus-stopped c = rw (arm (c .before .before .before .before .before .before .before .before .before) (c .before .before .before .before .before .before .before .p2 .given .1)) (plus-stops (c .before .before .before .lay2 .ensures) (c .if2 .taken) _)
+
+  tag-stopped : lts.Need-returns-3 calls at-t lay.Post
+  unfolding shown
+  tag-stopped c = rw (arm (c .before .before .before .before .before .before .before .before) (c .before .before .before .before .before .before .t .given .1)) (two-stops (c .before .before .before .put2 .ensures) (c .if3 .taken) _)
+
+  two-stopped : lts.Need-returns-4 calls at-t lay.Post
+  unfolding shown
+  two-stopped c = rw (arm (c .before .before .before .before .before .before .before .before .before) (c .before .before .before .before .before .before .before .p3 .given .1)) (two-stops (c .before .before .before .part2 .ensures) (c .if4 .taken) _)
+
+  cell-returns : lts.Need-returns-5 calls at-t lay.Post
   unfolding shown
   cell-returns c = rw (arm (c .before .before .before .before .before .before .before) (c .before .before .before .before .before .c .given .1)) (c .before .before .put .ensures)
 
-  pass-returns : lts.Need-returns-3 calls at-t lay.Post
+  pass-returns : lts.Need-returns-6 calls at-t lay.Post
   unfolding shown
   pass-returns c = rw (arm (c .before .before .before .before .before .before .before .before) (c .before .before .before .before .before .before .p .given .1)) (c .before .before .lay .ensures)
 
-  plus-returns : lts.Need-returns-4 calls at-t lay.Post
+  plus-returns : lts.Need-returns-7 calls at-t lay.Post
   unfolding shown
-  plus-returns c = rw (arm (c .before .before .before .before .before .before .before .before .before .before .before .before .before .before .before) (c .before .before .before .before .before .before .before .before .before .before .before .before .before .p2 .given .1), c .before .before .lift .ensures) (laid-plus (one-of (c .before .before .before .before .before .before .before .before .before .before .before .before .before .before .before) (c .before .before .before .before .before .before .before .before .before .before .before .before .before .p2 .given .1)) (c .before .before .before .before .before .before .before .before .before .lay2 .ensures) (c .before .before .before .before .before .rest .given .1) _)
+  plus-returns c = rw (arm (c .before .before .before .before .before .before .before .before .before .before .before .before .before) (c .before .before .before .before .before .before .before .before .before .before .before .p2 .given .1), c .before .before .lift .ensures) (laid-plus (one-of (c .before .before .before .before .before .before .before .before .before .before .before .before .before) (c .before .before .before .before .before .before .before .before .before .before .before .p2 .given .1)) (c .before .before .before .before .before .before .before .lay2 .ensures) (word-left _ (c .before .before .before .before .if2 .left)) _)
 
-  plus-deep : lts.Need-returns-5 calls at-t lay.Post
-  unfolding shown
-  plus-deep c = rw (arm (c .before .before .before .before .before .before .before .before .before .before) (c .before .before .before .before .before .before .before .before .p2 .given .1)) (laid-deep (c .before .before .before .before .lay2 .ensures .long) (sym (c .enum-told .given .1) ∙ (c .before .before .before .before .lay2 .ensures .is ∙ sym (tallied-raised _ _ _))))
-
-  plus-full : lts.Need-returns-6 calls at-t lay.Post
-  unfolding shown
-  plus-full c = rw (arm (c .before .before .before .before .before .before .before .before .before .before) (c .before .before .before .before .before .before .before .before .p2 .given .1)) (laid-full (c .before .before .before .before .lay2 .ensures .long) (sym (c .enum-told2 .given .1) ∙ (c .before .before .before .before .lay2 .ensures .is ∙ sym (tallied-raised _ _ _))))
-
-  tag-returns : lts.Need-returns-7 calls at-t lay.Post
+  tag-returns : lts.Need-returns-8 calls at-t lay.Post
   unfolding shown cells
-  tag-returns c = rw (arm (c .before .before .before .before .before .before .before .before .before .before .before .before .before .before .before .before) (c .before .before .before .before .before .before .before .before .before .before .before .before .before .before .t .given .1)) (laid-two (c .before .before .before .before .before .before .before .before .before .before .before .put2 .ensures) (c .before .before .before .before .before .before .before .rest2 .given .1) (c .before .before .part .ensures) (c .before .before .before .before .before .place .ensures) refl)
+  tag-returns c = rw (arm (c .before .before .before .before .before .before .before .before .before .before .before .before .before .before) (c .before .before .before .before .before .before .before .before .before .before .before .before .t .given .1)) (laid-two (c .before .before .before .before .before .before .before .before .before .put2 .ensures) (word-left _ (c .before .before .before .before .before .before .if3 .left)) (c .before .before .part .ensures) (c .before .before .before .before .before .place .ensures) refl)
 
-  tag-deep : lts.Need-returns-8 calls at-t lay.Post
+  two-returns : lts.Need-returns-9 calls at-t lay.Post
   unfolding shown
-  tag-deep c = rw (arm (c .before .before .before .before .before .before .before .before .before) (c .before .before .before .before .before .before .before .t .given .1)) (laid-deep (c .before .before .before .before .put2 .ensures .long) (two-deep _ _ _ (c .before .before .before .before .put2 .ensures .is) (c .enum-told3 .given .1)))
-
-  tag-full : lts.Need-returns-9 calls at-t lay.Post
-  unfolding shown
-  tag-full c = rw (arm (c .before .before .before .before .before .before .before .before .before) (c .before .before .before .before .before .before .before .t .given .1)) (laid-full (c .before .before .before .before .put2 .ensures .long) (two-full _ _ _ (c .before .before .before .before .put2 .ensures .is) (c .enum-told4 .given .1)))
-
-  two-returns : lts.Need-returns-10 calls at-t lay.Post
-  unfolding shown
-  two-returns c = rw (arm (c .before .before .before .before .before .before .before .before .before .before .before .before .before .before .before .before .before) (c .before .before .before .before .before .before .before .before .before .before .before .before .before .before .before .p3 .given .1)) (laid-two (c .before .before .before .before .before .before .before .before .before .before .before .part2 .ensures) (c .before .before .before .before .before .before .before .rest3 .given .1) (c .before .before .part3 .ensures) (reached _ (c .before .before .before .before .before .before .before .before .before .before .before .part2 .ensures) (c .before .before .before .before .before .before .before .rest3 .given .1) (c .before .before .before .before .before .place2 .ensures)) refl)
-
-  two-too-deep : lts.Need-returns-11 calls at-t lay.Post
-  unfolding shown
-  two-too-deep c = rw (arm (c .before .before .before .before .before .before .before .before .before .before) (c .before .before .before .before .before .before .before .before .p3 .given .1)) (laid-deep (c .before .before .before .before .part2 .ensures .long) (two-deep _ _ _ (c .before .before .before .before .part2 .ensures .is) (c .enum-told5 .given .1)))
-
-  two-no-room : lts.Need-returns-12 calls at-t lay.Post
-  unfolding shown
-  two-no-room c = rw (arm (c .before .before .before .before .before .before .before .before .before .before) (c .before .before .before .before .before .before .before .before .p3 .given .1)) (laid-full (c .before .before .before .before .part2 .ensures .long) (two-full _ _ _ (c .before .before .before .before .part2 .ensures .is) (c .enum-told6 .given .1)))
+  two-returns c = rw (arm (c .before .before .before .before .before .before .before .before .before .before .before .before .before .before .before) (c .before .before .before .before .before .before .before .before .before .before .before .before .before .p3 .given .1)) (laid-two (c .before .before .before .before .before .before .before .before .before .part2 .ensures) (word-left _ (c .before .before .before .before .before .before .if4 .left)) (c .before .before .part3 .ensures) (reached _ (c .before .before .before .before .before .before .before .before .before .part2 .ensures) (word-left _ (c .before .before .before .before .before .before .if4 .left)) (c .before .before .before .before .before .place2 .ensures)) refl)
 
 module _ (t : ℕ) where
   abbrev part-t : In 3 part-kinds.ps
@@ -147,65 +135,50 @@ pub +lay+part-spec : {M : Type 1} → statement M
     (deep-returns t)
     (λ c κs. (c .before .before .follow .ensures .visits _ _ (c .before .before .before .before .before .before .pre .1 .0), omega (arith, c .before .before .before .before .before .before .pre .1 .1 .0)))
     (λ c. search needs)
-    (λ c κs. search needs)
+    (λ c κs. c .before .before .before .before .before .before .before .before .before .before .before .pre .1 .1 .2)
     (λ c. search needs)
     (λ c. omega (arith, c .before .before .before .before .before .if1 .left))
-    (λ c κs. let h = go t (c .before .before .before .before .before) (next t (c .before .before .before .before .before) (c .before .before .before .p .given .1)) in (omega (arith, h .0), h .1))
+    (λ c κs. let h = go t (c .before .before .before .before .before) (next t (c .before .before .before .before .before) (c .before .before .before .p .given .1)) in (omega (arith, h .0), (h .1 .0, (h .1 .1 .0, h .1 .1 .1, c .before .before .before .before .before .before .before .before .before .before .before .before .pre .1 .1 .2))))
     (λ c. search needs)
     (λ c. omega (arith, c .before .before .before .before .before .if1 .left))
-    (λ c κs. let h = go t (c .before .before .before .before .before) (next t (c .before .before .before .before .before) (c .before .before .before .p2 .given .1) .0) in (omega (arith, h .0), h .1))
+    (λ c κs. let h = go t (c .before .before .before .before .before) (next t (c .before .before .before .before .before) (c .before .before .before .p2 .given .1) .0) in (omega (arith, h .0), (h .1 .0, (h .1 .1 .0, h .1 .1 .1, c .before .before .before .before .before .before .before .before .before .before .before .before .pre .1 .1 .2))))
+    (λ c. c .before .before .before .lay2 .ensures .long)
+    (plus-stopped t)
+    (λ c κs. let (h, k, s) = next t (c .before .before .before .before .before .before .before .before .before .before) (c .before .before .before .before .before .before .before .before .p2 .given .1) in omega (arith, lift-small (one-of t (c .before .before .before .before .before .before .before .before .before .before) (c .before .before .before .before .before .before .before .before .p2 .given .1)) (c .before .before .before .before .lay2 .ensures) (word-left _ (c .before .if2 .left)), k, h .near, c .before .before .before .before .before .before .before .before .before .before .before .before .before .before .before .before .before .pre .1 .1 .0, c .before .before .before .before .before .before .before .before .before .before .before .before .before .before .before .before .before .pre .1 .1 .1, c .before .before .before .before .before .before .before .before .before .before .before .before .before .follow .ensures .le))
     (λ c. search needs)
-    (λ c κs. let (h, k, s) = next t (c .before .before .before .before .before .before .before .before .before .before .before .before) (c .before .before .before .before .before .before .before .before .before .before .p2 .given .1) in omega (arith, lift-small (one-of t (c .before .before .before .before .before .before .before .before .before .before .before .before) (c .before .before .before .before .before .before .before .before .before .before .p2 .given .1)) (c .before .before .before .before .before .before .lay2 .ensures) (c .before .before .rest .given .1), k, h .near, c .before .before .before .before .before .before .before .before .before .before .before .before .before .before .before .before .before .before .before .pre .1 .1 .0, c .before .before .before .before .before .before .before .before .before .before .before .before .before .before .before .before .before .before .before .pre .1 .1 .1, c .before .before .before .before .before .before .before .before .before .before .before .before .before .before .before .follow .ensures .le))
-    (λ c. search needs)
-    (λ c. search needs)
-    (λ c. search needs)
+    (λ c κs. c .before .before .before .before .before .before .before .before .before .before .before .pre .1 .1 .2)
+    (λ c. c .before .before .before .put2 .ensures .long)
+    (tag-stopped t)
     (λ c κs. search needs)
-    (λ c. search needs)
-    (λ c κs. search needs)
-    (λ c. omega (arith, c .before .before .before .before .before .before .before .before .before .before .before .before .before .if1 .left))
+    (λ c. omega (arith, c .before .before .before .before .before .before .before .before .before .before .before .if1 .left))
     (λ c. omega (arith, c .before .place .ensures))
     (λ c. omega (arith, c .before .place .ensures))
     (λ c. omega (arith, c .before .place .ensures))
     (λ c. omega (arith, c .before .place .ensures))
-    (λ c κs. go t (c .before .before .before .before .before .before .before .before .before .before .before .before .before) (next t (c .before .before .before .before .before .before .before .before .before .before .before .before .before) (c .before .before .before .before .before .before .before .before .before .before .before .t .given .1)))
-    (λ c. search needs)
-    (λ c. search needs)
+    (λ c κs. let h = go t (c .before .before .before .before .before .before .before .before .before .before .before) (next t (c .before .before .before .before .before .before .before .before .before .before .before) (c .before .before .before .before .before .before .before .before .before .t .given .1)) in (h .0, (h .1 .0, (h .1 .1 .0, h .1 .1 .1, omega (arith, rest-within (c .before .before .before .before .before .before .put2 .ensures) (word-left _ (c .before .before .before .if3 .left)), c .before .before .before .before .before .before .before .before .before .before .before .before .before .before .before .before .before .before .pre .1 .1 .2)))))
     (λ c. search needs)
     (λ c. omega (arith, c .before .before .before .before .before .if1 .left))
-    (λ c κs. go t (c .before .before .before .before .before) (next t (c .before .before .before .before .before) (c .before .before .before .p3 .given .1) .0))
-    (λ c. search needs)
-    (λ c. rest-within (c .before .before .before .before .before .part2 .ensures) (c .before .rest3 .given .1))
+    (λ c κs. let h = go t (c .before .before .before .before .before) (next t (c .before .before .before .before .before) (c .before .before .before .p3 .given .1) .0) in (h .0, (h .1 .0, (h .1 .1 .0, h .1 .1 .1, c .before .before .before .before .before .before .before .before .before .before .before .before .pre .1 .1 .2))))
+    (λ c. c .before .before .before .part2 .ensures .long)
+    (two-stopped t)
+    (λ c. rest-within (c .before .before .before .part2 .ensures) (word-left _ (c .if4 .left)))
     (λ c κs. search needs)
-    (λ c. omega (arith, c .before .before .before .before .before .before .before .before .before .before .before .before .before .before .if1 .left))
-    (λ c. omega (arith, c .before .place2 .ensures, c .before .before .before .before .before .before .before .part2 .ensures .long, c .before .before .before .before .before .before .before .before .before .before .before .before .before .before .before .before .before .before .before .before .good))
-    (λ c. omega (arith, c .before .place2 .ensures, c .before .before .before .before .before .before .before .part2 .ensures .long, c .before .before .before .before .before .before .before .before .before .before .before .before .before .before .before .before .before .before .before .before .good))
-    (λ c. omega (arith, c .before .place2 .ensures, c .before .before .before .before .before .before .before .part2 .ensures .long, c .before .before .before .before .before .before .before .before .before .before .before .before .before .before .before .before .before .before .before .before .good))
-    (λ c. omega (arith, c .before .place2 .ensures, c .before .before .before .before .before .before .before .part2 .ensures .long, c .before .before .before .before .before .before .before .before .before .before .before .before .before .before .before .before .before .before .before .before .good))
-    (λ c κs. go t (c .before .before .before .before .before .before .before .before .before .before .before .before .before .before) (next t (c .before .before .before .before .before .before .before .before .before .before .before .before .before .before) (c .before .before .before .before .before .before .before .before .before .before .before .before .p3 .given .1) .1))
-    (λ c. search needs)
-    (λ c. search needs)
+    (λ c. omega (arith, c .before .before .before .before .before .before .before .before .before .before .before .before .if1 .left))
+    (λ c. omega (arith, c .before .place2 .ensures, c .before .before .before .before .before .part2 .ensures .long, c .before .before .before .before .before .before .before .before .before .before .before .before .before .before .before .before .before .before .good))
+    (λ c. omega (arith, c .before .place2 .ensures, c .before .before .before .before .before .part2 .ensures .long, c .before .before .before .before .before .before .before .before .before .before .before .before .before .before .before .before .before .before .good))
+    (λ c. omega (arith, c .before .place2 .ensures, c .before .before .before .before .before .part2 .ensures .long, c .before .before .before .before .before .before .before .before .before .before .before .before .before .before .before .before .before .before .good))
+    (λ c. omega (arith, c .before .place2 .ensures, c .before .before .before .before .before .part2 .ensures .long, c .before .before .before .before .before .before .before .before .before .before .before .before .before .before .before .before .before .before .good))
+    (λ c κs. let h = go t (c .before .before .before .before .before .before .before .before .before .before .before .before) (next t (c .before .before .before .before .before .before .before .before .before .before .before .before) (c .before .before .before .before .before .before .before .before .before .before .p3 .given .1) .1) in (h .0, (h .1 .0, (h .1 .1 .0, h .1 .1 .1, omega (arith, rest-within (c .before .before .before .before .before .before .part2 .ensures) (word-left _ (c .before .before .before .if4 .left)), c .before .before .before .before .before .before .before .before .before .before .before .before .before .before .before .before .before .before .before .pre .1 .1 .2)))))
     (λ c. c .before .before .put .ensures .long)
     (cell-returns t)
     (λ c. c .before .before .lay .ensures .long)
     (pass-returns t)
     (λ c. plus-returns t c .long)
     (plus-returns t)
-    (λ c. c .before .before .before .before .lay2 .ensures .long)
-    (plus-deep t)
-    (λ c. c .before .before .before .before .lay2 .ensures .long)
-    (plus-full t)
     (λ c. tag-returns t c .long)
     (tag-returns t)
-    (λ c. c .before .before .before .before .put2 .ensures .long)
-    (tag-deep t)
-    (λ c. c .before .before .before .before .put2 .ensures .long)
-    (tag-full t)
     (λ c. two-returns t c .long)
-    (two-returns t)
-    (λ c. c .before .before .before .before .part2 .ensures .long)
-    (two-too-deep t)
-    (λ c. c .before .before .before .before .part2 .ensures .long)
-    (two-no-room t)) λ t. part-lts.spec (part-calls t) (part-t t) part.Post
+    (two-returns t)) λ t. part-lts.spec (part-calls t) (part-t t) part.Post
     (λ c. omega (arith, in-plan (c .before .before .before .pre .1 .0 .walks) (c .before .before .before .pre .1 .0 .node)))
     (λ c. omega (arith, in-plan (c .before .before .before .pre .1 .0 .walks) (c .before .before .before .pre .1 .0 .node)))
     (λ c. omega (arith, in-plan (c .before .before .before .before .pre .1 .0 .walks) (c .before .before .before .before .pre .1 .0 .node)))
@@ -213,6 +186,6 @@ pub +lay+part-spec : {M : Type 1} → statement M
     (λ c. c .before .before .lay .ensures .long)
     (λ c. c .before .before .lay .ensures)
     (leaf-deep t)
-    (λ c κs. search needs)
+    (λ c κs. c .before .before .before .before .before .before .before .pre .1 .1 .2)
     (λ c. c .before .before .put .ensures .long)
     (λ c. rw (leaf-shows _ _ _ _ (c .before .before .before .before .before .if1 .left) (c .before .before .before .before .if2 .left)) (c .before .before .put .ensures))

@@ -12,8 +12,8 @@ put-spec =
     (tie.spec
     (λ c. put-full _ (c .if1 .taken))
     (λ c. search needs)
-    (λ c. put-none _ (c .before .if1 .left) _ (omega arith))
+    (λ c. put-none _ (c .before .if1 .left) (c .before .before .pre) _ (omega arith))
     (λ c. search needs)
     (λ c. search needs)
     (λ c. search needs)
-    (λ c. put-one _ (c .before .if1 .left) _ (omega arith)))
+    (λ c. put-one _ (c .before .if1 .left) (c .before .before .pre) _ (omega arith)))
