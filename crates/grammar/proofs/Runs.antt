@@ -1,7 +1,7 @@
 -- Runs of the pool: what a loop over `count` words from `at` on shows of every one of them.
 --   Upto              what a loop has shown of each number below i
 --   every-run, run-every, run-fails   a test of every word, by places
---   lower-..., endless-..., finite-...   the three tests, by the facts that the code has
+--   lower-..., finite-run   the tests of a dep's seconds, by the facts that the code has
 -- Assumes nothing.
 use mathlib.Core.Path.{_≡_, refl, sym, _∙_}
 use mathlib.Core.Bool.{Bool, true, false, not, false≢true}
@@ -10,15 +10,15 @@ use Prim.Native.Nat.{ℕ, zero, suc, _+_, _*_, _^_, _≤_, _<_}
 use native.Mathlib.Nat.{not-suc-le-zero, le-of-suc-le-suc}
 use native.Mathlib.Omega.{arith}
 use borrow.Author.Count.{below-none, below-more}
-use borrow.Author.Tests.{ltb-true, lt-ltb, le-ltb}
+use borrow.Author.Tests.{ltb-true, le-ltb}
 use lib.Dec.{ltb}
 use lib.ListN.{length, getD, take, drop, length-take, length-drop}
 use lib.Seq.{getD-take, getD-drop}
 use Rattle.numbers.specs.Size.{sizeOf}
 use Rattle.numbers.proofs.size.Laws.{by-size}
-use Rattle.grammar.specs.Rows.{every, isEndless, allLower, allEndless, allFinite}
+use Rattle.grammar.specs.Rows.{every, isEndless, allLower, allFinite}
 use Rattle.grammar.specs.Plan.{sizeIn}
-use Rattle.grammar.proofs.Tests.{and-left, and-right, endless-word, finite-word}
+use Rattle.grammar.proofs.Tests.{and-left, and-right}
 
 -- every word of a list, by its places
 pub every-at : (test : ℕ → Bool) (xs : List ℕ) (i : ℕ) → i < length xs → every test xs ≡ true → test (getD xs i 0) ≡ true
@@ -64,37 +64,19 @@ upto-none = record { le = omega arith; all = below-none _ }
 pub upto-more : {Q : ℕ → Type 0} {count i : ℕ} → Upto Q count i → i < count → Q i → Upto Q count (i + 1)
 upto-more {Q} {count} {i} u l q = record { le = omega arith; all = below-more _ i (u .all) q }
 
--- ---- the three tests, by the facts that the code has
+-- ---- the tests of a dep's seconds, by the facts that the code has
 module _ (n : ℕ) (p : List ℕ) (at count : ℕ) (in-p : at + count ≤ length p) where
   pub lower-run : allLower n (take count (drop at p)) ≡ true → (i : ℕ) → i < count → getD p (at + i) 0 < n
   lower-run e i l = ltb-true (getD p (at + i) 0) n (every-run p at count in-p (λ c. ltb c n) e i l)
 
-  pub lower-done : {i : ℕ} → Upto (λ j. getD p (at + j) 0 < n) count i → count ≤ i → true ≡ allLower n (take count (drop at p))
-  lower-done h l = run-every p at count in-p (λ c. ltb c n) (λ j m. lt-ltb (getD p (at + j) 0) n (h .all j (omega arith)))
-
   pub lower-not : (i : ℕ) → i < count → n ≤ getD p (at + i) 0 → false ≡ allLower n (take count (drop at p))
   lower-not i l u = run-fails p at count in-p (λ c. ltb c n) i l (le-ltb (getD p (at + i) 0) n u)
-
-  pub few-run : {r : Bool} → r ≡ allLower n (take count (drop at p)) → r ≡ true → {m : ℕ} → 4 * n ≤ m → (i : ℕ) → i < count → 4 * getD p (at + i) 0 + 3 < m
-  few-run e f l i m = omega (arith, lower-run (sym e ∙ f) i m)
 
 -- the size word of the node that word j names
 abbrev pub wordAt : List ℕ → List ℕ → ℕ → ℕ → ℕ
 wordAt plan p at j = getD plan (4 * getD p (at + j) 0 + 3) 0
 
 module _ (plan p : List ℕ) (at count : ℕ) (in-p : at + count ≤ length p) where
-  pub endless-done : {i : ℕ} → Upto (λ j. 2 ^ 63 ≤ wordAt plan p at j) count i → count ≤ i → true ≡ allEndless (sizeIn plan) (take count (drop at p))
-  endless-done h l = run-every p at count in-p (λ c. isEndless (sizeIn plan c)) (λ j m. endless-word (wordAt plan p at j) (h .all j (omega arith)))
-
-  pub endless-not : (i : ℕ) → i < count → wordAt plan p at i < 2 ^ 63 → false ≡ allEndless (sizeIn plan) (take count (drop at p))
-  endless-not i l u = run-fails p at count in-p (λ c. isEndless (sizeIn plan c)) i l (finite-word (wordAt plan p at i) u)
-
-  pub finite-done : {i : ℕ} → Upto (λ j. wordAt plan p at j < 2 ^ 63) count i → count ≤ i → true ≡ allFinite (sizeIn plan) (take count (drop at p))
-  finite-done h l = run-every p at count in-p (λ c. not (isEndless (sizeIn plan c))) (λ j m. rw (finite-word (wordAt plan p at j) (h .all j (omega arith))))
-
-  pub finite-not : (i : ℕ) → i < count → 2 ^ 63 ≤ wordAt plan p at i → false ≡ allFinite (sizeIn plan) (take count (drop at p))
-  finite-not i l u = run-fails p at count in-p (λ c. not (isEndless (sizeIn plan c))) i l (rw (endless-word (wordAt plan p at i) u))
-
   finite-says : (w : ℕ) → not (isEndless (sizeOf w)) ≡ true → w < 2 ^ 63
   finite-says w = by-size (λ s. not (isEndless s) ≡ true → w < 2 ^ 63) w (λ l e. l) (λ l e. absurd (false≢true e))
 

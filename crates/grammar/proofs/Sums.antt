@@ -1,104 +1,31 @@
--- The sum of the seconds' sizes.
---   Summing    the sum up to word i, all of them finite
+-- The sizes of a row's parts: two of them, and the seconds of a dep in one pass.
 --   pair-row   the row of or and of cons
---   seconds-finite, seconds-endless, seconds-mixed   the row of a dep's seconds, by what the code found
+--   Tally      what a pass over nodes cs shows of them: f of them are finite, with the sum s as far as it is measured
+--   Passing    the pass over the first i words of a run
+--   turn-...   a turn of it; end-... the row that it ends in
 -- Assumes nothing.
 use mathlib.Core.Path.{_≡_, refl, sym, _∙_}
-use mathlib.Core.Bool.{Bool, true, false, _&&_, false≢true}
-use mathlib.Core.List.{List, [], _∷_}
-use Prim.Native.Nat.{ℕ, zero, suc, _+_, _*_, _^_, _≤_, _<_}
-use native.Mathlib.Nat.{not-suc-le-zero, le-of-suc-le-suc}
+use mathlib.Core.Bool.{Bool, true, false, not, _&&_, false≢true}
+use mathlib.Core.List.{List, [], _∷_, _++_}
+use Prim.Native.Nat.{ℕ, _+_, _^_, _≤_, _<_}
 use native.Mathlib.Numerals.{add-one}
 use native.Mathlib.Omega.{arith}
-use lib.ListN.{length, getD, take, drop, length-drop}
+use lib.ListN.{length, getD, take, drop, length-take, length-drop, length-append}
 use lib.Dec.{ltb, leb}
-use lib.Seq.{getD-drop, take-take}
-use borrow.Author.Tests.{lt-ltb, le-leb, lt-leb}
+use lib.Seq.{getD-drop, take-suc}
+use borrow.Author.Tests.{lt-ltb, le-leb, lt-leb, leb-false}
 use Rattle.numbers.specs.Size.{Size, finite, endless, plus, measured}
 use Rattle.numbers.specs.Pick.{pick}
 use Rattle.numbers.specs.declared.size.Measured.{Measured}
 use Rattle.numbers.specs.declared.size.Measured.the-variants.{Of, Past}
-use Rattle.numbers.proofs.size.Laws.{sized-finite}
-use Rattle.grammar.specs.Rows.{every, isEndless, allEndless, allFinite, fits, total, row, asks, secondsRow}
+use Rattle.numbers.proofs.size.Laws.{sized-finite, sized-endless}
+use Rattle.grammar.specs.Rows.{Row, every, isEndless, allLower, allEndless, allFinite, fits, total, row, asks, further, secondsRow}
 use Rattle.grammar.specs.Plan.{sizeIn, coded, weighedOf}
 use Rattle.grammar.specs.declared.refusal.Refusal.the-variants.{Reference, UnsuitedPart, TooLarge}
 use Rattle.grammar.specs.declared.kinds.Weighed.{Weighed}
 use Rattle.grammar.specs.declared.kinds.Weighed.the-variants.{Fault, Of as Weighs}
 use Rattle.grammar.proofs.Tests.{and-left}
-use Rattle.grammar.proofs.Runs.{wordAt, run-long, run-at}
-
--- ---- over a list of nodes whose sizes are words below 2^63
-pub words-sum : List ℕ → List ℕ → ℕ
-words-sum plan [] = 0
-words-sum plan (c ∷ cs) = getD plan (4 * c + 3) 0 + words-sum plan cs
-
-total-is : (plan cs : List ℕ) → ((i : ℕ) → i < length cs → getD plan (4 * getD cs i 0 + 3) 0 < 2 ^ 63) → total (sizeIn plan) cs ≡ finite (words-sum plan cs)
-unfolding total words-sum plus
-total-is plan [] f = refl
-total-is plan (c ∷ cs) f = rw (sized-finite (getD plan (4 * c + 3) 0) (f 0 (omega arith)), total-is plan cs (λ i l. f (suc i) (omega arith)))
-
-words-suc : (plan cs : List ℕ) (i : ℕ) → i < length cs → words-sum plan (take (suc i) cs) ≡ words-sum plan (take i cs) + getD plan (4 * getD cs i 0 + 3) 0
-unfolding words-sum
-words-suc plan [] i l = absurd (not-suc-le-zero l)
-words-suc plan (c ∷ cs) zero l = omega arith
-words-suc plan (c ∷ cs) (suc i) l = omega (arith, words-suc plan cs i (le-of-suc-le-suc l))
-
-words-le : (plan cs : List ℕ) (i : ℕ) → words-sum plan (take i cs) ≤ words-sum plan cs
-unfolding words-sum
-words-le plan [] zero = omega arith
-words-le plan [] (suc i) = omega arith
-words-le plan (c ∷ cs) zero = omega arith
-words-le plan (c ∷ cs) (suc i) = omega (arith, words-le plan cs i)
-
--- ---- the loop
-pub record Summing (plan p : List ℕ) (at count sum i : ℕ) : Type 0 where
-  pub le : i ≤ count
-  pub is : sum ≡ words-sum plan (take i (drop at p))
-  pub small : sum ≤ 2 ^ 62
-
-pub sum-none : {plan p : List ℕ} {at count : ℕ} → Summing plan p at count 0 0
-unfolding words-sum
-sum-none = record { le = omega arith; is = refl; small = omega arith }
-
-module _ {plan p : List ℕ} {at count sum i : ℕ} (in-p : at + count ≤ length p) (finites : (j : ℕ) → j < count → wordAt plan p at j < 2 ^ 63)
-    (s : Summing plan p at count sum i) where
-  whole : total (sizeIn plan) (take count (drop at p)) ≡ finite (words-sum plan (take count (drop at p)))
-  whole =
-      total-is plan (take count (drop at p))
-      (λ j l. let w : j < count = omega (arith, run-long p at count in-p) in rw (run-at p at count in-p j w) (finites j w))
-
-  module _ (l : i < count) where
-    next : sum + wordAt plan p at i ≡ words-sum plan (take (suc i) (drop at p))
-    next =
-        let w : i < length (drop at p) = simp length-drop (omega arith) in
-        rw (s .is, ← getD-drop at p i 0) (sym (words-suc plan (drop at p) i w))
-
-    pub sum-more : sum + wordAt plan p at i ≤ 2 ^ 62 → Summing plan p at count (sum + wordAt plan p at i) (i + 1)
-    sum-more h = record { le = omega arith; is = rw add-one next; small = h }
-
-    pub sum-past : 2 ^ 62 < sum + wordAt plan p at i → Past ≡ measured (total (sizeIn plan) (take count (drop at p)))
-    unfolding measured
-    sum-past h =
-        let w : words-sum plan (take (suc i) (drop at p)) ≤ words-sum plan (take count (drop at p))
-        = rw (take-take (suc i) count (drop at p) l) at (words-le plan (take count (drop at p)) (suc i)) in
-        rw (whole, lt-leb (words-sum plan (take count (drop at p))) (2 ^ 62) (omega (arith, next)))
-
-  pub sum-end : count ≤ i → Of sum ≡ measured (total (sizeIn plan) (take count (drop at p)))
-  unfolding measured
-  sum-end l =
-      let e : i ≡ count = omega (arith, s .le) in
-      let f : sum ≡ words-sum plan (take count (drop at p)) = rw e at (s .is) in
-      rw (whole, ← f, le-leb sum (2 ^ 62) (s .small))
-
--- ---- the row of the seconds
-endless-total : (z : ℕ → Size) (cs : List ℕ) → allEndless z cs ≡ true → allFinite z cs ≡ false → total z cs ≡ endless
-unfolding total every plus
-endless-total z [] e f = absurd (false≢true (sym f))
-endless-total z (c ∷ cs) e f = by (z c) (and-left (isEndless (z c)) (allEndless z cs) e)
-  where
-    by : (s : Size) → isEndless s ≡ true → plus s (total z cs) ≡ endless
-    by (finite s) g = absurd (false≢true g)
-    by endless g = refl
+use Rattle.grammar.proofs.Runs.{wordAt, run-long, lower-not}
 
 -- a size that is measured, and the last check of a row
 pub measured-row : (s : Size) → weighedOf (measured s) ≡ coded (row (asks (fits s) TooLarge ∷ []) s)
@@ -116,16 +43,173 @@ pub pair-row : (n a b : ℕ) (s : Size) {m : Measured} {w : Weighed} → a < n �
 unfolding row
 pair-row n a b s l k m w = rw (w, m, lt-ltb a n l, lt-ltb b n k) (measured-row s)
 
-module _ (z : ℕ → Size) (cs : List ℕ) {f : Bool} (a : f ≡ allFinite z cs) where
-  pub seconds-finite : f ≡ true → {m : Measured} {w : Weighed} → m ≡ measured (total z cs) → w ≡ weighedOf m → w ≡ coded (secondsRow z cs)
-  unfolding secondsRow row
-  seconds-finite t m w = rw (w, m, sym a ∙ t) (measured-row (total z cs))
+-- ---- one node more
+and-swap : (a b c : Bool) → (a && (b && c)) ≡ (b && (a && c))
+and-swap true b c = refl
+and-swap false true c = refl
+and-swap false false c = refl
 
-  module _ (u : f ≡ false) {e : Bool} (b : e ≡ allEndless z cs) where
-    pub seconds-endless : e ≡ true → Weighs (2 ^ 63) ≡ coded (secondsRow z cs)
-    unfolding secondsRow row coded
-    seconds-endless t = rw (← a, u, ← b, t, endless-total z cs (sym b ∙ t) (sym a ∙ u))
+every-more : (test : ℕ → Bool) (cs : List ℕ) (c : ℕ) → every test (cs ++ (c ∷ [])) ≡ (test c && every test cs)
+unfolding every
+every-more test [] c = refl
+every-more test (b ∷ bs) c = rw (every-more test bs c) (and-swap (test b) (test c) (every test bs))
 
-    pub seconds-mixed : e ≡ false → Fault UnsuitedPart ≡ coded (secondsRow z cs)
-    unfolding secondsRow row coded
-    seconds-mixed t = rw (← a, u, ← b, t)
+plus-swap : (s t u : Size) → plus s (plus t u) ≡ plus t (plus s u)
+unfolding plus
+plus-swap (finite s) (finite t) (finite u) = let e : s + (t + u) ≡ t + (s + u) = omega arith in rw e
+plus-swap (finite s) (finite t) endless = refl
+plus-swap (finite s) endless u = refl
+plus-swap endless (finite t) u = refl
+plus-swap endless endless u = refl
+
+total-more : (z : ℕ → Size) (cs : List ℕ) (c : ℕ) → total z (cs ++ (c ∷ [])) ≡ plus (z c) (total z cs)
+unfolding total
+total-more z [] c = refl
+total-more z (b ∷ bs) c = rw (total-more z bs c) (plus-swap (z b) (z c) (total z bs))
+
+-- a sum up to 2^62 grows by w; of one past it only that is kept, so it need not grow
+module _ (s w : ℕ) where
+  sum-more : (t : Size) → s ≤ 2 ^ 62 → measured t ≡ measured (finite s) → measured (plus (finite w) t) ≡ measured (finite (s + w))
+  unfolding measured plus
+  sum-more (finite t) l e = by (leb t (2 ^ 62)) (rw (le-leb s (2 ^ 62) l) at e)
+    where
+      by : (q : Bool) → pick q (Of t) Past ≡ Of s → measured (finite (w + t)) ≡ measured (finite (s + w))
+      by true g = let same : t ≡ s = cc in let e : w + t ≡ s + w = omega arith in rw e
+      by false g = let no : _≡_ {A = ℕ} 0 1 = cc in absurd (omega arith)
+  sum-more endless l e = let f : Of (2 ^ 63) ≡ Of s = rw (le-leb s (2 ^ 62) l) at e in let g : 2 ^ 63 ≡ s = cc in absurd (omega arith)
+
+  sum-past : (t : Size) → 2 ^ 62 < s → measured t ≡ measured (finite s) → measured (plus (finite w) t) ≡ measured (finite s)
+  unfolding measured plus
+  sum-past (finite t) l e = by (leb t (2 ^ 62)) refl (rw (lt-leb s (2 ^ 62) l) at e)
+    where
+      by : (q : Bool) → leb t (2 ^ 62) ≡ q → pick q (Of t) Past ≡ Past → measured (finite (w + t)) ≡ measured (finite s)
+      by true f g = let no : _≡_ {A = ℕ} 0 1 = cc in absurd (omega arith)
+      by false f g = rw (lt-leb (w + t) (2 ^ 62) (omega (arith, leb-false t (2 ^ 62) f)), lt-leb s (2 ^ 62) l)
+  sum-past endless l e = let f : Of (2 ^ 63) ≡ Past = rw (lt-leb s (2 ^ 62) l) at e in let no : _≡_ {A = ℕ} 0 1 = cc in absurd (omega arith)
+
+-- ---- the pass over the seconds
+pub record Tally (z : ℕ → Size) (n : ℕ) (cs : List ℕ) (f s : ℕ) : Type 0 where
+  pub lower : allLower n cs ≡ true
+  pub most : f ≤ length cs
+  pub all : f ≡ length cs → (allFinite z cs ≡ true) × (measured (total z cs) ≡ measured (finite s))
+  pub not-all : f < length cs → allFinite z cs ≡ false
+  pub none : f ≡ 0 → allEndless z cs ≡ true
+  pub not-none : 0 < f → allEndless z cs ≡ false
+
+tally-none : {z : ℕ → Size} {n : ℕ} → Tally z n [] 0 0
+unfolding every total
+tally-none = record { lower = refl; most = omega arith; all = λ e. (refl, refl); not-all = λ l. absurd (omega arith); none = λ e. refl; not-none = λ l. absurd (omega arith) }
+
+module _ {z : ℕ → Size} {n : ℕ} {cs : List ℕ} {f s : ℕ} (t : Tally z n cs f s) (c : ℕ) (l : c < n) where
+  longer : length (cs ++ (c ∷ [])) ≡ length cs + 1
+  longer = simp length-append
+
+  lower-more : allLower n (cs ++ (c ∷ [])) ≡ true
+  lower-more = rw (every-more (λ b. ltb b n) cs c, lt-ltb c n l) (t .lower)
+
+  tally-finite : {w r : ℕ} → z c ≡ finite w → (measured (total z cs) ≡ measured (finite s) → measured (plus (finite w) (total z cs)) ≡ measured (finite r))
+      → Tally z n (cs ++ (c ∷ [])) (f + 1) r
+  tally-finite e sum = record {
+    lower = lower-more;
+    most = omega (arith, longer);
+    all = λ k. let h = t .all (omega (arith, longer)) in (rw (every-more (λ b. not (isEndless (z b))) cs c, e) (h .0), rw (total-more z cs c, e) (sum (h .1)));
+    not-all = λ k. rw (every-more (λ b. not (isEndless (z b))) cs c, e) (t .not-all (omega (arith, longer)));
+    none = λ k. absurd (omega arith);
+    not-none = λ k. rw (every-more (λ b. isEndless (z b)) cs c, e);
+  }
+
+  tally-endless : z c ≡ endless → Tally z n (cs ++ (c ∷ [])) f s
+  tally-endless e = record {
+    lower = lower-more;
+    most = omega (arith, longer);
+    all = λ k. absurd (omega (arith, longer));
+    not-all = λ k. rw (every-more (λ b. not (isEndless (z b))) cs c, e);
+    none = λ k. rw (every-more (λ b. isEndless (z b)) cs c, e) (t .none k);
+    not-none = λ k. rw (every-more (λ b. isEndless (z b)) cs c, e) (t .not-none k);
+  }
+
+endless-total : (z : ℕ → Size) (cs : List ℕ) → allEndless z cs ≡ true → allFinite z cs ≡ false → total z cs ≡ endless
+unfolding total every plus
+endless-total z [] e f = absurd (false≢true (sym f))
+endless-total z (c ∷ cs) e f = by (z c) (and-left (isEndless (z c)) (allEndless z cs) e)
+  where
+    by : (s : Size) → isEndless s ≡ true → plus s (total z cs) ≡ endless
+    by (finite s) g = absurd (false≢true g)
+    by endless g = refl
+
+-- the checks that are left of a dep's row, of its seconds cs
+abbrev pub lowerRow : (ℕ → Size) → ℕ → List ℕ → Row
+lowerRow z n cs = further (asks (allLower n cs) Reference ∷ []) (secondsRow z cs)
+
+module _ {z : ℕ → Size} {n : ℕ} {cs : List ℕ} {f s : ℕ} (t : Tally z n cs f s) where
+  tally-all : f ≡ length cs → weighedOf (measured (finite s)) ≡ coded (lowerRow z n cs)
+  unfolding further secondsRow row
+  tally-all e = rw (← t .all e .1, t .lower, t .all e .0) (measured-row (total z cs))
+
+  module _ (l : f < length cs) where
+    tally-no-finite : f ≡ 0 → Weighs (2 ^ 63) ≡ coded (lowerRow z n cs)
+    unfolding further secondsRow row coded
+    tally-no-finite e = rw (t .lower, t .not-all l, t .none e, endless-total z cs (t .none e) (t .not-all l))
+
+    tally-mixed : 0 < f → Fault UnsuitedPart ≡ coded (lowerRow z n cs)
+    unfolding further secondsRow row coded
+    tally-mixed k = rw (t .lower, t .not-all l, t .not-none k)
+
+-- ---- the same over a run of the pool, by the facts that the code has
+pub record Passing (plan p : List ℕ) (n at count f s i : ℕ) : Type 0 where
+  pub le : i ≤ count
+  pub is : Tally (sizeIn plan) n (take i (drop at p)) f s
+
+pub turn-none : {plan p : List ℕ} {n at count : ℕ} → Passing plan p n at count 0 0 0
+turn-none = record { le = omega arith; is = tally-none }
+
+module _ {plan p : List ℕ} {n at count f s i : ℕ} (in-p : at + count ≤ length p) (r : Passing plan p n at count f s i) where
+  pub turn-few : f ≤ i
+  turn-few = omega (arith, r .is .most, length-take i (drop at p))
+
+  module _ (l : i < count) where
+    -- "each of those m words a lower node"
+    pub turn-not-lower : n ≤ getD p (at + i) 0 → Fault Reference ≡ coded (lowerRow (sizeIn plan) n (take count (drop at p)))
+    unfolding further coded
+    turn-not-lower u = rw (← lower-not n p at count in-p i l u)
+
+    module _ (u : getD p (at + i) 0 < n) where
+      more : {g q : ℕ} → Tally (sizeIn plan) n (take i (drop at p) ++ (getD p (at + i) 0 ∷ [])) g q → Passing plan p n at count g q (i + 1)
+      more t =
+          let w : i < length (drop at p) = simp length-drop (omega arith) in
+          record { le = omega arith; is = rw (add-one, take-suc (drop at p) i 0 w, getD-drop at p i 0) t }
+
+      pub turn-endless : 2 ^ 63 ≤ wordAt plan p at i → Passing plan p n at count f s (i + 1)
+      turn-endless h = more (tally-endless (r .is) _ u (sized-endless (wordAt plan p at i) h))
+
+      module _ (h : wordAt plan p at i < 2 ^ 63) where
+        pub turn-adds : s ≤ 2 ^ 62 → Passing plan p n at count (f + 1) (s + wordAt plan p at i) (i + 1)
+        turn-adds k = more (tally-finite (r .is) _ u (sized-finite (wordAt plan p at i) h) (sum-more s (wordAt plan p at i) _ k))
+
+        pub turn-past : 2 ^ 62 < s → Passing plan p n at count (f + 1) s (i + 1)
+        turn-past k = more (tally-finite (r .is) _ u (sized-finite (wordAt plan p at i) h) (sum-past s (wordAt plan p at i) _ k))
+
+  module _ (l : count ≤ i) where
+    whole : Tally (sizeIn plan) n (take count (drop at p)) f s
+    whole = let e : i ≡ count = omega (arith, r .le) in rw e at (r .is)
+
+    long : length (take count (drop at p)) ≡ count
+    long = run-long p at count in-p
+
+    pub end-sum : f ≡ count → s ≤ 2 ^ 62 → Weighs s ≡ coded (lowerRow (sizeIn plan) n (take count (drop at p)))
+    unfolding weighedOf measured
+    end-sum e h = rw (le-leb s (2 ^ 62) h) at (tally-all whole (e ∙ sym long))
+
+    pub end-past : f ≡ count → 2 ^ 62 < s → Fault TooLarge ≡ coded (lowerRow (sizeIn plan) n (take count (drop at p)))
+    unfolding weighedOf measured
+    end-past e h = rw (lt-leb s (2 ^ 62) h) at (tally-all whole (e ∙ sym long))
+
+    module _ (k : f ≡ count → ⊥) where
+      not-all : f < length (take count (drop at p))
+      not-all = omega (arith, long, whole .most)
+
+      pub end-endless : f ≡ 0 → Weighs (2 ^ 63) ≡ coded (lowerRow (sizeIn plan) n (take count (drop at p)))
+      end-endless e = tally-no-finite whole not-all e
+
+      pub end-mixed : (f ≡ 0 → ⊥) → Fault UnsuitedPart ≡ coded (lowerRow (sizeIn plan) n (take count (drop at p)))
+      end-mixed e = tally-mixed whole not-all (omega arith)

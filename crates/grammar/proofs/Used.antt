@@ -1,9 +1,9 @@
 -- The constant table of used words: its rule, proved once for the whole table by one computed equation.
---   used        the table, as the code has it
---   used-rule   each entry is what the column "a, b" of 01 says of its kind and word
---   spare-is    so the code's test of spare words is 01's
+--   entries     a table by its rule
+--   used-rule   each entry of the code's table is what the column "a, b" of 01 says of its kind and word
+--   spare-..., used-...   so the code's test of spare words is 01's, of both words and of one
 -- Assumes nothing.
-use mathlib.Core.Path.{_≡_, refl, sym, subst, _∙_}
+use mathlib.Core.Path.{_≡_, sym, _∙_}
 use mathlib.Core.Bool.{Bool, true, false, _||_}
 use mathlib.Core.List.{List, [], _∷_}
 use Prim.Native.Nat.{ℕ, zero, suc, _+_, _*_, _/_, _%_, _≤_, _<_}
@@ -12,16 +12,11 @@ use native.Mathlib.Omega.{arith}
 use lib.Dec.{eqb}
 use lib.ListN.{getD}
 use Rattle.grammar.specs.Node.{nodeOf, usesA, usesB, spare}
-use Rattle.grammar.specs.Used.{usedAt}
+use Rattle.grammar.specs.Used.{usedAt, UsedWords}
 use Rattle.grammar.proofs.ByKind.{by-kind}
 
-abbrev pub used : List Bool
-used =
-    true ∷ false ∷ false ∷ false ∷ true ∷ true ∷ true ∷ true ∷ true ∷ true
-    ∷ true ∷ true ∷ true ∷ true ∷ true ∷ true ∷ true ∷ false ∷ true ∷ false ∷ []
-
 -- f at i, i + 1, .. : n entries
-entries : (ℕ → Bool) → ℕ → ℕ → List Bool
+unfoldable pub entries : (ℕ → Bool) → ℕ → ℕ → List Bool
 entries f i zero = []
 entries f i (suc n) = f i ∷ entries f (suc i) n
 
@@ -31,13 +26,9 @@ entry-at f i zero k h = absurd (not-suc-le-zero h)
 entry-at f i (suc n) zero h = let e : i + 0 ≡ i = omega arith in rw e
 entry-at f i (suc n) (suc k) h = let e : i + suc k ≡ suc i + k = omega arith in rw e (entry-at f (suc i) n k (le-of-suc-le-suc h))
 
--- the one test of the whole table
-whole : used ≡ entries usedAt 0 20
-unfolding entries usedAt usesA usesB nodeOf
-whole = refl
-
-pub used-rule : (i : ℕ) → i < 20 → getD used i false ≡ usedAt i
-used-rule i h = let e : 0 + i ≡ i = omega arith in subst (λ (l : List Bool). getD l i false ≡ usedAt i) (sym whole) (rw e at (entry-at usedAt 0 20 i h))
+-- by the one test of the whole table
+pub used-rule : {used : List Bool} → used ≡ entries usedAt 0 20 → UsedWords used
+used-rule e = record { rule = λ i h. let z : 0 + i ≡ i = omega arith in rw e (rw z at (entry-at usedAt 0 20 i h)) }
 
 -- ---- of a kind's two words
 uses-a : (k a b : ℕ) → k ≤ 9 → usesA (nodeOf k a b) ≡ usesA (nodeOf k 0 0)
@@ -74,9 +65,9 @@ module _ (k a b : ℕ) (h : k < 10) {x : Bool} (e : x ≡ (usedAt (2 * k) || eqb
   spare-not t = rw (← used-a k a b (omega arith), ← e, t)
 
 -- ---- of one word, as the code finds it
-module _ (i w : ℕ) (h : i < 20) where
+module _ {used : List Bool} (u : UsedWords used) (i w : ℕ) (h : i < 20) where
   pub used-yes : getD used i false ≡ true → true ≡ (usedAt i || eqb w 0)
-  used-yes e = rw (sym (used-rule i h) ∙ e)
+  used-yes e = rw (sym (u .rule i h) ∙ e)
 
   pub used-no : getD used i false ≡ false → eqb w 0 ≡ (usedAt i || eqb w 0)
-  used-no e = rw (sym (used-rule i h) ∙ e)
+  used-no e = rw (sym (u .rule i h) ∙ e)

@@ -1,11 +1,13 @@
 // The row of each kind of document 01's table: its checks in their order, and then its size.
 ghost use mathlib.Core.Path.{_≡_};
-ghost use Prim.Native.Nat.{ℕ, _+_, _*_, _<_, _≤_};
-ghost use lib.ListN.{length, getD, take, drop};
+ghost use mathlib.Core.List.{[], _∷_};
+ghost use Prim.Native.Nat.{_+_, _*_, _<_, _≤_};
+ghost use lib.ListN.{length, take, drop};
 ghost use Rattle.numbers.specs.Size.{sizeOf, codeOf};
 ghost use Rattle.grammar.specs.Table.{kindOf, nodes};
-ghost use Rattle.grammar.specs.Rows.{belowRow, natsRow, poolRow, shiftRow, orRow, consRow, secondsRow, depRow, exceptRow, fixRow, againRow};
+ghost use Rattle.grammar.specs.Rows.{belowRow, natsRow, poolRow, shiftRow, orRow, consRow, allLower, asks, further, secondsRow, depRow, exceptRow, fixRow, againRow};
 ghost use Rattle.grammar.specs.Plan.{sizeIn, coded, weighedOf};
+ghost use Rattle.grammar.specs.declared.refusal.Refusal.the-variants.{Reference};
 use super::loops;
 use super::refusal::Refusal;
 use numbers::size;
@@ -178,23 +180,39 @@ pub fn dep(pool: &[u64], plan: &[u64], n: usize, a: usize, b: usize) -> Weighed
     if pool.len() - m < b {
         return Weighed::Fault(Refusal::Range);
     }
-    if loops::all_lower(pool, b, m, n) {
-        return dep_seconds(pool, plan, b, m);
-    }
-    Weighed::Fault(Refusal::Reference)
+    dep_seconds(pool, plan, n, b, m)
 }
 
-// The rest of a dep's row, where its seconds are lower nodes.
-fn dep_seconds(pool: &[u64], plan: &[u64], at: usize, count: usize) -> Weighed
-    requires { ⌜ at + count ≤ length (now pool) ⌝ }
-    requires { ⌜ ((i : ℕ) → i < count → 4 * getD (now pool) (at + i) 0 + 3 < length (now plan)) ⌝ }
-    ensures { λ r. ⌜ r ≡ coded (secondsRow (sizeIn (now (plan .entry))) (take count (drop at (now (pool .entry))))) ⌝ }
+// The rest of a dep's row, in one pass over its seconds. "each of those m words a lower node" comes before "all finite or all endless",
+// so a second that is not lower refuses at once, and the sizes are judged after the last one.
+fn dep_seconds(pool: &[u64], plan: &[u64], n: usize, at: usize, count: usize) -> Weighed
+    requires { ⌜ (at + count ≤ length (now pool)) × (4 * n ≤ length (now plan)) ⌝ }
+    ensures { λ r. ⌜ r ≡ coded (further (asks (allLower n (take count (drop at (now (pool .entry))))) Reference ∷ []) (secondsRow (sizeIn (now (plan .entry))) (take count (drop at (now (pool .entry)))))) ⌝ }
 {
-    if loops::all_finite(pool, plan, at, count) {
-        let m = loops::total_of(pool, plan, at, count);
-        return of_measured(m);
+    // How many are finite so far, and their sum.
+    let mut finite = 0;
+    let mut sum: u64 = 0;
+    for i in 0..count {
+        let k = pool[at + i] as usize;
+        if n <= k {
+            return Weighed::Fault(Refusal::Reference);
+        }
+        let s = plan[4 * k + 3];
+        if s < ENDLESS {
+            finite += 1;
+            // Past 2^62 it grows no more, so it cannot overflow.
+            if sum <= LARGEST {
+                sum += s;
+            }
+        }
     }
-    if loops::all_endless(pool, plan, at, count) {
+    if finite == count {
+        if LARGEST < sum {
+            return Weighed::Fault(Refusal::TooLarge);
+        }
+        return Weighed::Of(sum);
+    }
+    if finite == 0 {
         return Weighed::Of(ENDLESS);
     }
     Weighed::Fault(Refusal::UnsuitedPart)

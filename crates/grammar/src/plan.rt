@@ -6,7 +6,7 @@ ghost use lib.Dec.{eqb};
 ghost use lib.ListN.{length, replicate};
 ghost use Rattle.grammar.specs.Table.{nodes};
 ghost use Rattle.grammar.specs.Node.{nodeOf, spare};
-ghost use Rattle.grammar.specs.Used.{usedAt};
+ghost use Rattle.grammar.specs.Used.{usedAt, UsedWords};
 ghost use Rattle.grammar.specs.Rows.{rowOf, rowAt};
 ghost use Rattle.grammar.specs.Plan.{sizeIn, coded, rowed, AllWeighed};
 use super::kinds;
@@ -49,22 +49,22 @@ const USED: [bool; 20] = [
 ];
 
 // "a word not used is zero": of one word, by its entry in the table.
-fn used_or_zero(entry: usize, word: u64) -> bool
-    requires { ⌜ entry < 20 ⌝ }
+fn used_or_zero(used: &[bool; 20], entry: usize, word: u64) -> bool
+    requires { ⌜ UsedWords (now used) × (entry < 20) ⌝ }
     ensures { λ r. ⌜ r ≡ (usedAt entry || eqb word 0) ⌝ }
 {
-    if USED[entry] {
+    if used[entry] {
         return true;
     }
     word == 0
 }
 
-fn spare_words(kind: usize, a: u64, b: u64) -> bool
-    requires { ⌜ kind < 10 ⌝ }
+fn spare_words(used: &[bool; 20], kind: usize, a: u64, b: u64) -> bool
+    requires { ⌜ UsedWords (now used) × (kind < 10) ⌝ }
     ensures { λ r. ⌜ r ≡ spare (nodeOf kind a b) a b ⌝ }
 {
-    if used_or_zero(2 * kind, a) {
-        return used_or_zero(2 * kind + 1, b);
+    if used_or_zero(used, 2 * kind, a) {
+        return used_or_zero(used, 2 * kind + 1, b);
     }
     false
 }
@@ -90,7 +90,8 @@ fn row(table: &[u64], pool: &[u64], plan: &[u64], n: usize, kind: u64, a: u64, b
 }
 
 // "kind known (2) before the row"
-fn weigh(table: &[u64], pool: &[u64], plan: &[u64], n: usize) -> Weighed
+fn weigh(used: &[bool; 20], table: &[u64], pool: &[u64], plan: &[u64], n: usize) -> Weighed
+    requires { ⌜ UsedWords (now used) ⌝ }
     requires { ⌜ (length (now table) ≡ 3 * nodes (now table)) × (n < nodes (now table)) × (4 * n ≤ length (now plan)) ⌝ }
     ensures { λ r. ⌜ r ≡ coded (rowAt (now (table .entry)) (now (pool .entry)) (sizeIn (now (plan .entry))) n) ⌝ }
 {
@@ -100,7 +101,7 @@ fn weigh(table: &[u64], pool: &[u64], plan: &[u64], n: usize) -> Weighed
     if AGAIN < kind {
         return Weighed::Fault(Refusal::Kind);
     }
-    if spare_words(kind as usize, a, b) {
+    if spare_words(used, kind as usize, a, b) {
         return row(table, pool, plan, n, kind, a, b);
     }
     Weighed::Fault(Refusal::SpareWord)
@@ -123,9 +124,11 @@ pub fn weigh_all(table: &[u64], pool: &[u64], plan: &mut [u64]) -> Verdict
     requires { ⌜ (now plan ≡ replicate (length (now plan)) 0) × (4 * nodes (now table) ≤ length (now plan)) ⌝ }
     ensures { λ r. ⌜ AllWeighed (now (table .entry)) (now (pool .entry)) (now (plan .exit)) r ⌝ }
 {
+    // Made once, and lent to each node.
+    let used = USED;
     let count = table.len() / 3;
     for n in 0..count {
-        let w = weigh(table, pool, plan, n);
+        let w = weigh(&used, table, pool, plan, n);
         match w {
             Weighed::Fault(r) => {
                 return Verdict::Refused(r, n as u64);

@@ -58,10 +58,10 @@ fn part(
     if POOL <= plan[4 * i] {
         return take(plan, pool, i, left, 0, cells, at, stop);
     }
-    if left == 0 {
-        return Got::Wrong(Refusal::TooDeep);
+    if 0 < left {
+        return leaf(plan, i, cells, at, stop);
     }
-    leaf(plan, i, cells, at, stop)
+    Got::Wrong(Refusal::TooDeep)
 }
 
 // "Reading walks the same nodes from cells": from the place `at`, where a case may have no cell from

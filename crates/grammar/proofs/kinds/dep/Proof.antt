@@ -12,7 +12,6 @@ use Rattle.numbers.proofs.size.Laws.{by-size}
 use Rattle.grammar.specs.Rows.{further, few, count, depRow}
 use Rattle.grammar.specs.Plan.{coded}
 use Rattle.grammar.proofs.Tests.{tests}
-use Rattle.grammar.proofs.Runs.{few-run}
 use Rattle.grammar.proofs.kinds.dep.Statement.{statement}
 use Rattle.grammar.proofs.kinds.dep.Tie as tie
 
@@ -41,6 +40,4 @@ dep-spec =
     (λ c. search needs)
     (λ c. search (tests, not-many, the-count))
     (λ c κs. search needs)
-    (λ c κs. let a = c .before .before .before .before .before .before .before .before .before .args in (omega arith, few-run (a .n) (a .pool .now) (a .b) (getD (a .plan .now) (4 * a .a + 3) 0) (omega arith) (c .before .all-lower .ensures) (c .if5 .taken) (c .before .before .before .before .before .before .before .before .before .pre)))
-    (λ c. search (tests, not-many, the-count, ← c .before .before .all-lower .ensures, c .before .if5 .taken, c .dep-seconds .ensures))
-    (λ c. search (tests, not-many, the-count, ← c .before .all-lower .ensures, c .if5 .left)))
+    (λ c. search (tests, not-many, the-count, c .dep-seconds .ensures)))

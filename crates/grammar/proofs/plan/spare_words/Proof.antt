@@ -14,5 +14,5 @@ spare-words-spec =
     (λ c. search needs)
     (λ c. search needs)
     (λ c κs. search needs)
-    (λ c. spare-both _ _ _ (c .before .before .before .pre) (c .before .before .used-or-zero .ensures) (c .before .if1 .taken) (c .used-or-zero2 .ensures))
-    (λ c. spare-not _ _ _ (c .before .before .pre) (c .before .used-or-zero .ensures) (c .if1 .left)))
+    (λ c. spare-both _ _ _ (c .before .before .before .pre .1) (c .before .before .used-or-zero .ensures) (c .before .if1 .taken) (c .used-or-zero2 .ensures))
+    (λ c. spare-not _ _ _ (c .before .before .pre .1) (c .before .used-or-zero .ensures) (c .if1 .left)))

@@ -10,5 +10,5 @@ used-or-zero-spec =
     tie.close
     (tie.spec
     (λ c. search needs)
-    (λ c. used-yes _ (c .before .args .word) (c .before .pre) (c .if1 .taken))
-    (λ c. used-no _ (c .before .args .word) (c .before .pre) (c .if1 .left)))
+    (λ c. used-yes (c .before .before .pre .0) _ (c .before .before .args .word) (c .before .before .pre .1) (c .if1 .taken))
+    (λ c. used-no (c .before .before .pre .0) _ (c .before .before .args .word) (c .before .before .pre .1) (c .if1 .left)))

@@ -1,17 +1,21 @@
--- `grammar::plan::weigh_all` goes through the nodes, rising.
+-- `grammar::plan::weigh_all` goes through the nodes, rising. Its table of used words has 01's rule by one computed equation, the `refl` below.
 -- Assumes nothing.
 use borrow.Author.Needs.{needs}
+use mathlib.Core.Path.{refl}
 use Prim.Native.Nat.{_-_}
 use native.Mathlib.Omega.{arith}
+use Rattle.grammar.specs.Node.{nodeOf, usesA, usesB}
+use Rattle.grammar.specs.Used.{usedAt}
+use Rattle.grammar.proofs.Used.{entries, used-rule}
 use Rattle.grammar.proofs.Scan.{Weighing, weighing-none, weighing-more, weighing-fault, weighing-end}
 use Rattle.grammar.proofs.plan.weigh_all.Statement.{statement}
 use Rattle.grammar.proofs.plan.weigh_all.Tie as tie
 
 abbrev Inv-loop : tie.InvT-loop
-Inv-loop table pool plan₀ count n₀ plan n = Weighing table pool plan₀ n plan
+Inv-loop table pool plan₀ used count n₀ plan n = Weighing table pool plan₀ n plan
 
 abbrev μ-loop : tie.MeasureT-loop
-μ-loop table pool plan₀ count n₀ plan n = count - n
+μ-loop table pool plan₀ used count n₀ plan n = count - n
 
 pub weigh-all-spec : {M : Type 1} → statement M
 weigh-all-spec =
@@ -20,7 +24,7 @@ weigh-all-spec =
     Inv-loop
     μ-loop
     (λ c. search weighing-none)
-    (λ c κs. omega arith)
+    (λ c κs. (unfold entries usedAt usesA usesB nodeOf in used-rule refl, omega arith))
     (λ c. search needs)
     (λ c. search needs)
     (λ c. search weighing-fault)
@@ -39,6 +43,6 @@ weigh-all-spec =
     (λ c κs. omega arith)
     (λ c. omega arith)
     (λ c. omega arith)
-    (λ c. weighing-more (c .before .before .before .before .before .before .before .before .before .before .before .before .before .loop .inv) (omega arith) (c .before .before .before .before .before .before .before .before .before .before .weigh .ensures) (search needs) (c .before .before .put-row .ensures))
+    (λ c. weighing-more (c .before .before .before .before .before .before .before .before .before .before .before .before .before .before .loop .inv) (omega arith) (c .before .before .before .before .before .before .before .before .before .before .weigh .ensures) (search needs) (c .before .before .put-row .ensures))
     (λ c. search needs)
     (λ c. search weighing-end))

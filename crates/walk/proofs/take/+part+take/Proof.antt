@@ -185,9 +185,9 @@ pub +part+take-spec : {M : Type 1} → statement M
     (λ c. omega (arith, in-plan (c .before .before .before .before .pre .1 .0 .walks) (c .before .before .before .before .pre .1 .0 .node)))
     (λ c κs. (omega (arith, c .before .before .before .before .before .pre .0), (c .before .before .before .before .before .pre .1 .0, omega (arith, c .before .before .before .before .before .pre .1 .1))))
     (λ c. c .take .ensures)
-    (λ c. record { is = taken-deep _ _ _ _ _ (c .if2 .taken) })
     (λ c κs. omega (arith, in-plan (c .before .before .before .before .before .before .pre .1 .0 .walks) (c .before .before .before .before .before .before .pre .1 .0 .node)))
-    (λ c. c .leaf .ensures .is (c .before .before .if1 .left) _ _ _ (c .before .if2 .left) (omega arith))) λ t. lts.spec (calls t) (at-t t) take.Post
+    (λ c. c .leaf .ensures .is (c .before .before .if1 .left) _ _ _ (λ e. omega (arith, c .before .if2 .taken)) (omega arith))
+    (λ c. record { is = taken-deep _ _ _ _ _ (omega (arith, c .if2 .left)) })) λ t. lts.spec (calls t) (at-t t) take.Post
     (λ c κs. let r = c .before .before .before .pre .1 .0 in record { pool = c .before .before .before .args .pool .now; walks = r .walks; node = r .node })
     (deep-returns t)
     (λ c κs. (c .before .before .follow .ensures .reads _ _ (c .before .before .before .before .before .before .pre .1 .0), omega (arith, c .before .before .before .before .before .before .pre .1 .1)))
