@@ -1,3 +1,4 @@
 -- The laws of the root, and the arithmetic of Newton's step.
 pub mod Laws
+mod Near
 mod Newton

@@ -1,6 +1,6 @@
 // The whole square root of any word.
 ghost use mathlib.Core.Path.{_≡_};
-ghost use Prim.Native.Nat.{_<_, _≤_, _^_};
+ghost use Prim.Native.Nat.{_*_, _<_, _≤_, _^_};
 ghost use Rattle.numbers.specs.Root.{root, Above};
 
 // The largest root of a word, 2^32 - 1.
@@ -145,7 +145,7 @@ fn top_root(top: u64) -> u16 {
 // nothing but its range, since `root_of` is right from any guess, and quick from a near one.
 fn guess(n: u64) -> u64
     requires { ⌜ 0 < n ⌝ }
-    ensures { λ r. ⌜ (1 < r) × (r ≤ 2 ^ 32) ⌝ }
+    ensures { λ r. ⌜ (1 < r) × (r < 2 ^ 32) ⌝ }
 {
     let half = u64::leading_zeros(n) / 2;
     let top = (n << (2 * half)) >> 57;
@@ -162,6 +162,33 @@ fn step_above(n: u64, near: u64) -> u64
     if MOST < r { MOST } else { r }
 }
 
+// Below this a guess is so near that no division is needed: deep in a large case nearly all numbers are small.
+const SMALL: u64 = 65536;
+
+// The first number from `near` down whose square is within n.
+fn down(n: u64, near: u64) -> u64
+    requires { ⌜ near < 2 ^ 32 ⌝ }
+    ensures { λ r. ⌜ r * r ≤ n ⌝ }
+{
+    let mut r = near;
+    while n < r * r {
+        r -= 1;
+    }
+    r
+}
+
+// The last number from r up whose square is within n.
+fn up(n: u64, from: u64) -> u64
+    requires { ⌜ (from * from ≤ n) × (n < 65536) ⌝ }
+    ensures { λ r. ⌜ r ≡ root n ⌝ }
+{
+    let mut r = from;
+    while (r + 1) * (r + 1) <= n {
+        r += 1;
+    }
+    r
+}
+
 // From a number above the root Newton's steps fall until they meet it.
 pub fn root_of(n: u64) -> u64
     ensures { λ r. ⌜ r ≡ root n ⌝ }
@@ -170,6 +197,9 @@ pub fn root_of(n: u64) -> u64
         return 0;
     }
     let near = guess(n);
+    if n < SMALL {
+        return up(n, down(n, near));
+    }
     let mut r = step_above(n, near);
     while n < r * r {
         r = (r + n / r) / 2;

@@ -13,7 +13,7 @@ use native.Mathlib.Omega.{arith}
 use lib.Dec.{leb}
 use borrow.Author.Tests.{leb-true, leb-false}
 use Rattle.numbers.specs.Root.{Above, root}
-use Rattle.numbers.proofs.root.Laws.{root-is, root-one}
+use Rattle.numbers.proofs.root.Near.{square-fits, ends}
 
 -- four times a product is at most the square of the sum
 four-apart : (a b d : ℕ) → b ≡ a + d → 4 * (a * b) ≤ (a + b) * (a + b)
@@ -47,13 +47,13 @@ module _ (n r : ℕ) where
   step-below h = omega (arith, quotient-below h)
 
   pub small-square : Above n r → r * r < 2 ^ 64
-  small-square a = omega (arith, mul-le-mul {n₁ = r} {m₁ = r} {n₂ = 2 ^ 32 - 1} {m₂ = 2 ^ 32 - 1} (omega arith) (omega arith))
+  small-square a = square-fits r (a .word)
 
   pub stepped : Above n r → n < r * r → Above n ((r + n / r) / 2)
   stepped a h = record { above = step-above (above-zero h); word = omega (arith, step-below h) }
 
   pub met : Above n r → r * r ≤ n → r ≡ root n
-  met a h = root-one (record { within = h; most = a .above }) (root-is n)
+  met a h = ends n r h (a .above)
 
 -- a word's root is at most 2^32 - 1
 pub most-above : (n : ℕ) → n < 2 ^ 64 → Above n (2 ^ 32 - 1)

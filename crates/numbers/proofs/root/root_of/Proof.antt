@@ -24,7 +24,10 @@ root-of-spec =
     μ-loop
     none
     (λ c κs. omega arith)
-    (λ c κs. c .guess .ensures)
+    (λ c κs. c .before .guess .ensures .1)
+    (λ c κs. (c .down .ensures, omega arith))
+    (λ c. c .up .ensures)
+    (λ c κs. (c .before .guess .ensures .0, omega (arith, c .before .guess .ensures .1)))
     (λ c. c .step-above .ensures)
     (λ c. record { fits = small-square _ _ (c .loop .inv) })
     (λ c. above-zero _ _ (c .loop-test .taken))
