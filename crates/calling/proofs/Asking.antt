@@ -7,7 +7,6 @@ use Prim.Native.Nat.{ℕ, _-_, _<_}
 use native.Mathlib.Omega.{arith}
 use lib.ListN.{length}
 use Rattle.rows.specs.Reader.{nextOf, afterOf, strideOf}
-use Rattle.rows.specs.declared.reader.Next.{Next}
 use Rattle.rows.specs.declared.reader.Next.the-variants.{Item}
 use Rattle.rows.specs.declared.reader.Stride.{Stride}
 use Rattle.rows.proofs.Outcomes.{next-moves}

@@ -6,7 +6,7 @@
 --   line-further                   and the next place lies further on
 -- Assumes nothing.
 use mathlib.Core.Path.{_≡_, refl, sym, ap, _∙_}
-use mathlib.Core.List.{List, [], _∷_, _++_}
+use mathlib.Core.List.{List, []}
 use Prim.Native.Nat.{ℕ, _≤_, _<_}
 use native.Mathlib.Omega.{arith}
 use lib.ListN.{length, take, drop, length-append}
@@ -23,7 +23,7 @@ use Rattle.printing.specs.declared.answers.Opened.the-variants.{Whole, C
 use Rattle.printing.specs.declared.answers.Said.{Said}
 use Rattle.printing.specs.declared.answers.Said.the-variants.{Line, Nothing}
 use Rattle.printing.proofs.input.Numbers.{one-within}
-use Rattle.printing.proofs.answers.Lines.{Lines, lines-of}
+use Rattle.printing.proofs.answers.Lines.{lines-of}
 
 front-line : (line old : List ℕ) {last : List ℕ} {size : ℕ} → last ≡ front line old → size ≡ length line → take size last ≡ line
 front-line line old e s = rw (e, s) (take-append-seam line (drop (length line) old))

@@ -4,25 +4,25 @@
 --   cases-printed    so after `opening` has said that cases follow, they are the whole print
 --   left-all, left-further   and each of them is asked for with what the text asks for
 -- Assumes nothing.
-use mathlib.Core.Path.{_≡_, refl, sym, ap, subst, _∙_}
+use mathlib.Core.Path.{_≡_, refl, sym, ap, _∙_}
 use mathlib.Core.Bool.{Bool, true, false}
 use mathlib.Core.List.{List, [], _∷_, _++_, append-assoc}
 use mathlib.Core.Option.{Option, none, some, Option·map}
-use Prim.Native.Nat.{ℕ, _≤_, _<_}
+use Prim.Native.Nat.{ℕ}
 use native.Mathlib.Omega.{arith}
 use lib.Dec.{leb}
 use lib.ListN.{length, take}
 use borrow.Author.Tests.{leb-true, leb-false}
-use Rattle.printing.specs.Input.{asks, oneAt, numbersFrom, inputOf}
-use Rattle.printing.specs.Printed.{started, caseLine, casesOf, judged, told, printed, Opens, Left, Answers}
-use Rattle.printing.specs.declared.input.One.the-variants.{Number, Not}
+use Rattle.printing.specs.Input.{asks, oneAt, numbersFrom}
+use Rattle.printing.specs.Printed.{casesOf, told, printed, Opens, Left, Answers}
+use Rattle.printing.specs.declared.input.One.the-variants.{Not}
 use Rattle.printing.specs.declared.answers.Opened.{Opened}
 use Rattle.printing.specs.declared.answers.Opened.the-variants.{Cases}
 use Rattle.printing.specs.declared.answers.Said.{Said}
 use Rattle.printing.specs.declared.answers.Said.the-variants.{Line, Nothing}
 use Rattle.printing.proofs.input.Numbers.{one-within, numbers-end, numbers-more, numbers-not}
-use Rattle.printing.proofs.answers.Lines.{Lines, lines-of}
-use Rattle.printing.proofs.Outcomes.{Accepts, accepted, table-words, pool-words, Printed, line-printed, none-there}
+use Rattle.printing.proofs.answers.Lines.{lines-of}
+use Rattle.printing.proofs.Outcomes.{accepted, table-words, pool-words, line-printed, none-there}
 
 none-some : {A : Type 0} {a : A} → none ≡ some a → ⊥
 none-some e = let z : _≡_ {A = ℕ} 0 1 = cc in omega arith

@@ -3,7 +3,6 @@ ghost use mathlib.Core.Path.{_≡_};
 ghost use Prim.Native.Nat.{_≤_};
 ghost use lib.ListN.{length};
 ghost use Rattle.printing.specs.Texts.{caseText};
-ghost use Rattle.printing.specs.Input.{oneAt};
 ghost use Rattle.printing.specs.Printed.{started, room, caseLine, OnPage, Opens, Judges, Left, Answers};
 use super::input::Asked;
 use super::input::One;

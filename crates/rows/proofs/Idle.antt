@@ -5,7 +5,7 @@
 --   item-0-and-pretends, item-0-read-and-pretends   "a row call that handles item 0 and pretends afterwards"
 --   made-up-count, row-made-up-count                "a made-up cell count"
 -- Assumes nothing.
-use mathlib.Core.Path.{_≡_, refl, sym, ap, _∙_}
+use mathlib.Core.Path.{_≡_, refl, ap, _∙_}
 use mathlib.Core.List.{List, [], _∷_}
 use Prim.Native.Nat.{ℕ}
 use native.Mathlib.Omega.{arith}
@@ -43,7 +43,6 @@ use Rattle.rows.specs.WriteRow.{writesRowPlanned, writesRow, WroteRow}
 use Rattle.rows.specs.WriteRow as Written
 use Rattle.rows.specs.ReadRow.{gather, gotten, readsRowPlanned, readsRow, GotRow}
 use Rattle.rows.specs.Reader.{next, nextPlanned, nextOf, strideOf}
-use Rattle.rows.specs.declared.answer.Row.{Row}
 use Rattle.rows.specs.declared.answer.Row.the-variants.{Done as Row-done}
 use Rattle.rows.specs.declared.reader.Next.the-variants.{Item, Refused as Not-handed}
 use Rattle.rows.specs.declared.reader.Stride.{Stride}

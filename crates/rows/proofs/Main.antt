@@ -2,7 +2,7 @@
 -- `check` answers `verdict`; `write` promises `Wrote`, `read` answers `reads`; `write_row` and `read_row` promise `WroteRow` and `GotRow`; the reader answers `strideOf`.
 -- None of them has a `requires`. Every statement is in full, every proof one citation.
 -- Assumes nothing.
-use mathlib.Core.Path.{_≡_, refl}
+use mathlib.Core.Path.{_≡_}
 use mathlib.Core.List.{List, [], _∷_, _++_, map}
 use Prim.Native.Nat.{ℕ, suc, _+_, _≤_, _<_}
 use lib.ListN.{length, take}
@@ -32,7 +32,7 @@ use Rattle.rows.specs.Reader.{strideOf}
 use Rattle.rows.specs.Cut.{Cut, joined, handOut, asks}
 use Rattle.rows.specs.declared.answer.Row.{Row}
 use Rattle.rows.specs.declared.answer.Row.the-variants.{Done as Row-done, Refused as Row-refused}
-use Rattle.rows.specs.declared.reader.Next.the-variants.{Item, End}
+use Rattle.rows.specs.declared.reader.Next.the-variants.{End}
 use Rattle.rows.proofs.OneList as One-list
 use Rattle.rows.proofs.Unique as Unique
 use Rattle.rows.proofs.WorkedRows as Rows

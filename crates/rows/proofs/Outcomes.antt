@@ -27,8 +27,7 @@ use Rattle.rows.specs.Reader.{handed, next, nextPlanned, nextOf}
 use Rattle.rows.specs.Reader as Readers
 use Rattle.rows.specs.declared.answer.Row.{Row}
 use Rattle.rows.specs.declared.answer.Row.the-variants.{Done, Refused}
-use Rattle.rows.specs.declared.reader.Next.{Next}
-use Rattle.rows.specs.declared.reader.Next.the-variants.{Item, End, Refused as Not-handed}
+use Rattle.rows.specs.declared.reader.Next.the-variants.{Item, Refused as Not-handed}
 use Rattle.rows.proofs.Turns.{done-row}
 use Rattle.rows.proofs.Cuts.{gathered-fits, case-front}
 

@@ -3,7 +3,7 @@
 --   follow-none, follow-more   nothing followed yet; one node more
 -- Assumes nothing.
 use mathlib.Core.Path.{_≡_, refl, sym, _∙_}
-use mathlib.Core.Logic.{_⊎_, inl, inr, ⊎-elim}
+use mathlib.Core.Logic.{_⊎_, inl, ⊎-elim}
 use mathlib.Core.List.{List}
 use Prim.Native.Nat.{ℕ, _-_, _≤_, _<_}
 use native.Mathlib.Nat.{le-refl}
@@ -16,7 +16,6 @@ use Rattle.walk.specs.Visit.{stepOf}
 use Rattle.walk.specs.Walk.{shown, walk}
 use Rattle.walk.specs.Reading.{Read, read, wrong, on, same, ahead, become, then, follow, taken}
 use Rattle.walk.specs.Good.{Single, Fits, Walkable, Visits}
-use Rattle.walk.specs.Look.{Reading}
 use Rattle.walk.specs.Follow.{Stays, Followed}
 use Rattle.walk.specs.declared.step.Step.the-variants.{Pass}
 use Rattle.walk.proofs.Nodes.{kindAt, aAt, bAt}

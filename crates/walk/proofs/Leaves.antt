@@ -20,7 +20,7 @@ use Rattle.graph.proofs.Marks.{same?}
 use Rattle.walk.specs.Grammar.{planned, nodeIn}
 use Rattle.walk.specs.Reading.{Ahead, ends, fails, read, wrong, cellOf, fit, ahead, follow, taken}
 use Rattle.walk.specs.Look.{celled}
-use Rattle.walk.specs.Got.{gotOf, Took}
+use Rattle.walk.specs.Got.{gotOf}
 use Rattle.walk.specs.Leaf.{Leaf}
 use Rattle.walk.specs.declared.look.Celled.{Celled}
 use Rattle.walk.specs.declared.look.Celled.the-variants.{Cell, None}

@@ -2,7 +2,7 @@
 ghost use mathlib.Core.Path.{_≡_};
 ghost use mathlib.Core.List.{[], _∷_};
 ghost use Prim.Native.Nat.{_+_, _^_, _<_, _≤_, min};
-ghost use lib.ListN.{length, getD};
+ghost use lib.ListN.{getD};
 ghost use Rattle.walk.specs.Grammar.{planned};
 ghost use Rattle.walk.specs.Walk.{walk, cell};
 ghost use Rattle.walk.specs.Room.{most};

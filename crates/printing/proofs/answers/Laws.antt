@@ -4,8 +4,8 @@
 --   line-done, line-refused                what a number prints
 --   said-line, said-none                   what the number at a place prints
 -- Assumes nothing.
-use mathlib.Core.Path.{_≡_, refl, sym, ap, _∙_}
-use mathlib.Core.List.{List, [], _∷_, _++_}
+use mathlib.Core.Path.{_≡_, sym, ap}
+use mathlib.Core.List.{List}
 use Prim.Native.Nat.{ℕ, _+_, _*_, _^_, _≤_, _<_}
 use native.Mathlib.Omega.{arith}
 use lib.ListN.{length, getD, take, length-take}
@@ -16,8 +16,6 @@ use Rattle.grammar.specs.declared.refusal.Refusal.{Refusal}
 use Rattle.grammar.specs.declared.refusal.Refusal.the-variants.{NoSuchStart}
 use Rattle.grammar.specs.declared.refusal.Verdict.{Verdict}
 use Rattle.grammar.specs.declared.refusal.Verdict.the-variants.{Accepted, Refused}
-use Rattle.walk.specs.Grammar.{grammarOf}
-use Rattle.walk.specs.Walk.{walk, cells, depth}
 use Rattle.walk.specs.Filled.{Filled}
 use Rattle.cases.specs.Write.{writes, Wrote}
 use Rattle.cases.specs.declared.writing.Written.{Written}
@@ -25,7 +23,7 @@ use Rattle.cases.specs.declared.writing.Written.the-variants.{Done, Refused as 
 use Rattle.cases.proofs.Outcomes.{written-fits, written-cells}
 use Rattle.printing.specs.Texts.{refusedText, caseText, caseRefusedText}
 use Rattle.printing.specs.Input.{oneAt}
-use Rattle.printing.specs.Printed.{startBy, started, room, caseBy, caseLine, OnPage, Judges, Answers}
+use Rattle.printing.specs.Printed.{started, room, caseLine, OnPage, Judges, Answers}
 use Rattle.printing.specs.declared.input.One.{One}
 use Rattle.printing.specs.declared.input.One.the-variants.{Number, Not}
 use Rattle.printing.specs.declared.answers.Opened.the-variants.{Whole, Cases}

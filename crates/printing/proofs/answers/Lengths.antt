@@ -2,7 +2,7 @@
 --   refused-size, case-size, case-refused-size    how long a line is at most
 --   whole                                         a line that has room stands on the page as a whole
 -- Assumes nothing.
-use mathlib.Core.Path.{_≡_, refl, sym, ap, _∙_}
+use mathlib.Core.Path.{_∙_}
 use mathlib.Core.List.{List, [], _∷_, _++_}
 use Prim.Native.Nat.{ℕ, suc, _+_, _*_, _^_, _≤_, _<_}
 use native.Mathlib.Omega.{arith}
@@ -11,7 +11,7 @@ use lib.Seq.{take-all}
 use Rattle.grammar.specs.Refusals.{numberOf}
 use Rattle.grammar.specs.declared.refusal.Refusal.{Refusal}
 use Rattle.grammar.specs.declared.refusal.Refusal.the-variants.{Length, Kind, SpareWord, Reference, Range, Repeat, UnsuitedPart, TooLarge, Unguarded, ExceptOnCycle, NoSuchStart, NoSuchNumber, TooDeep, NoRoom, NotACase, NumberTooLarge}
-use Rattle.walk.specs.Filled.{over, Filled}
+use Rattle.walk.specs.Filled.{Filled}
 use Rattle.walk.proofs.Fills.{over-is}
 use Rattle.lines.specs.Decimal.{decimal}
 use Rattle.lines.specs.Line.{lineText}

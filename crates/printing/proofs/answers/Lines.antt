@@ -2,7 +2,7 @@
 --   Lines, lines-of         each line stands behind the one before
 --   table-few, pool-few     the table's and the pool's words have room
 -- Assumes nothing.
-use mathlib.Core.Path.{_≡_, refl, sym, ap, _∙_}
+use mathlib.Core.Path.{_≡_, refl}
 use mathlib.Core.Bool.{Bool, true, false, cond}
 use mathlib.Core.List.{List, [], _∷_}
 use mathlib.Core.Option.{Option, none, some}
@@ -12,7 +12,7 @@ use lib.Dec.{leb}
 use lib.ListN.{length}
 use Rattle.lines.specs.Line.{Reading, numbers, unreadable, lineAt, within}
 use Rattle.lines.proofs.line.Outcomes.{readable-not, within-back}
-use Rattle.printing.specs.Input.{Input, asks, unclear, mostBytes, tableWords, poolWords, notEmpty, tableLine, poolLine, oneAt, numbersFrom, withNumbers, withStart, withPool, withTable, inputOf}
+use Rattle.printing.specs.Input.{asks, unclear, mostBytes, tableWords, poolWords, notEmpty, tableLine, poolLine, oneAt, numbersFrom, withNumbers, withStart, withPool, withTable, inputOf}
 use Rattle.printing.specs.declared.input.One.{One}
 use Rattle.printing.specs.declared.input.One.the-variants.{Number, Not}
 

@@ -2,17 +2,17 @@
 --   opens-judged, opens-unclear    by what was read
 --   table-fits, pool-fits          the words that are lent on stand in those that were lent
 -- Assumes nothing.
-use mathlib.Core.Path.{_≡_, refl, sym, ap, _∙_}
-use mathlib.Core.List.{List, [], _∷_, _++_}
+use mathlib.Core.Path.{_≡_, refl, ap, _∙_}
+use mathlib.Core.List.{List, _++_}
 use Prim.Native.Nat.{ℕ, _≤_}
 use native.Mathlib.Omega.{arith}
 use lib.ListN.{length, take, drop}
 use lib.Seq.{take-append-seam}
 use Rattle.walk.specs.Filled.{Filled}
-use Rattle.lines.specs.Line.{numbers, stored}
+use Rattle.lines.specs.Line.{stored}
 use Rattle.printing.specs.Texts.{bytes, unreadableText}
-use Rattle.printing.specs.Input.{Input, asks, unclear, tableWords, poolWords, tableLine, poolLine, inputOf, asked, poolStored, ReadInput}
-use Rattle.printing.specs.Printed.{openBy, opened, judged, started, Judges, Opens}
+use Rattle.printing.specs.Input.{Input, asks, unclear, tableWords, poolWords, inputOf, asked, poolStored, ReadInput}
+use Rattle.printing.specs.Printed.{Judges, Opens}
 use Rattle.printing.specs.declared.input.Asked.{Asked}
 use Rattle.printing.specs.declared.input.Asked.the-variants.{Cases, Unreadable}
 use Rattle.printing.specs.declared.answers.Opened.{Opened}

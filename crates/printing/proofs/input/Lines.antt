@@ -2,20 +2,17 @@
 --   one-none, one-some, one-not                   a line that is to have one number
 --   table-long, table-none, table-some, table-not the table's line
 -- Assumes nothing.
-use mathlib.Core.Path.{_≡_, refl, sym, ap, _∙_}
-use mathlib.Core.Bool.{Bool, true, false, cond}
+use mathlib.Core.Path.{_≡_, refl, sym, _∙_}
 use mathlib.Core.List.{List, [], _∷_, _++_}
 use Prim.Native.Nat.{ℕ, suc, _≤_, _<_}
 use native.Mathlib.Omega.{arith}
-use lib.Dec.{leb}
 use lib.ListN.{length, getD, drop}
 use borrow.Author.Tests.{le-leb, lt-leb}
 use Rattle.lines.specs.Line.{Reading, numbers, unreadable, lineAt, within, answer, stored, ReadLine}
 use Rattle.lines.specs.declared.line.Line.{Line}
 use Rattle.lines.specs.declared.line.Line.the-variants.{Numbers, Unreadable}
-use Rattle.lines.proofs.line.Outcomes.{ReadNumbers, read-numbers, read-unreadable}
+use Rattle.lines.proofs.line.Outcomes.{read-numbers, read-unreadable}
 use Rattle.printing.specs.Input.{mostBytes, tableWords, notEmpty, tableLine, alone, oneAt, ReadTable}
-use Rattle.printing.specs.declared.input.One.{One}
 use Rattle.printing.specs.declared.input.One.the-variants.{Number, Not}
 
 -- ---- one number

@@ -4,18 +4,17 @@
 -- Assumes nothing.
 use mathlib.Core.Path.{_≡_, refl, sym, ap, _∙_}
 use mathlib.Core.Bool.{Bool, true, false, true≢false, false≢true}
-use mathlib.Core.List.{List, [], _∷_}
+use mathlib.Core.List.{List}
 use mathlib.Core.Option.{Option, none, some}
 use Prim.Native.Nat.{ℕ}
 use native.Mathlib.Omega.{arith}
 use lib.ListN.{length}
-use Rattle.lines.specs.Line.{Reading, numbers, unreadable, lineAt, within, answer, stored, ReadLine}
+use Rattle.lines.specs.Line.{Reading, numbers, unreadable, answer, ReadLine}
 use Rattle.lines.specs.declared.line.Line.{Line}
 use Rattle.lines.specs.declared.line.Line.the-variants.{Numbers, Unreadable}
-use Rattle.printing.specs.Input.{poolWords, tableLine, poolLine, oneAt, numbersFrom, withNumbers, withStart, withPool, withTable, inputOf, ReadTable, readable, asked, poolStored, ReadInput}
+use Rattle.printing.specs.Input.{poolWords, tableLine, poolLine, oneAt, numbersFrom, withNumbers, withStart, withPool, inputOf, ReadTable, readable, asked, poolStored, ReadInput}
 use Rattle.printing.specs.declared.input.One.{One}
 use Rattle.printing.specs.declared.input.One.the-variants.{Number, Not}
-use Rattle.printing.specs.declared.input.Asked.{Asked}
 use Rattle.printing.specs.declared.input.Asked.the-variants.{Cases, Unreadable as Unclear}
 
 -- the reading behind an answer

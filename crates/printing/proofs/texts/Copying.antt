@@ -9,7 +9,7 @@ use native.Mathlib.Omega.{arith}
 use lib.ListN.{length, getD, take, drop, set, drop-of-length-le}
 use lib.Seq.{take-all}
 use Rattle.lines.proofs.Fronts.{front-more, front-length}
-use Rattle.walk.specs.Filled.{over, Filled}
+use Rattle.walk.specs.Filled.{Filled}
 use Rattle.walk.proofs.Fills.{over-is}
 
 pub record Copying (text old now : List ℕ) (i : ℕ) : Type 0 where

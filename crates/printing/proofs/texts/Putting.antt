@@ -3,14 +3,14 @@
 --   digits-none      which has room for them
 --   Lining, line-start, line-more, line-end    a line of numbers, one by one
 -- Assumes nothing.
-use mathlib.Core.Path.{_≡_, refl, sym, ap, subst, _∙_}
+use mathlib.Core.Path.{_≡_, refl, sym, _∙_}
 use mathlib.Core.List.{List, [], _∷_, _++_, append-assoc}
 use Prim.Native.Nat.{ℕ, suc, _+_, _-_, _^_, _≤_, _<_}
 use native.Mathlib.Numerals.{add-one}
 use native.Mathlib.Omega.{arith}
 use lib.ListN.{length, getD, take, drop, drop-of-length-le}
 use lib.Seq.{drop-cons, take-append-seam}
-use Rattle.walk.specs.Filled.{over, Filled}
+use Rattle.walk.specs.Filled.{Filled}
 use Rattle.walk.proofs.Fills.{nothing, then}
 use Rattle.lines.specs.Decimal.{decimal}
 use Rattle.lines.specs.Line.{lineText}

@@ -2,7 +2,6 @@
 -- Assumes nothing.
 use borrow.Author.Needs.{needs}
 use Prim.Native.Nat.{_-_}
-use native.Mathlib.Omega.{arith}
 use lib.ListN.{length}
 use Rattle.calling.proofs.Asking.{nearer}
 use Rattle.calling.proofs.reader.ask_on.Statement.{statement}

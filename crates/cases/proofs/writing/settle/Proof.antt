@@ -1,6 +1,6 @@
 -- `cases::writing::settle` copies what was kept, or writes over the buffer itself.
 -- Assumes nothing.
-use mathlib.Core.Path.{sym, _∙_}
+use mathlib.Core.Path.{_∙_}
 use Rattle.checked.proofs.Copying.{over-long, kept-copied}
 use Rattle.cases.proofs.writing.settle.Statement.{statement}
 use Rattle.cases.proofs.writing.settle.Tie as tie

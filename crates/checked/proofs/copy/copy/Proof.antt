@@ -1,6 +1,5 @@
 -- `checked::copy::copy` puts cells over the front of a buffer.
 -- Assumes nothing.
-use borrow.Author.Needs.{needs}
 use Prim.Native.Nat.{_-_}
 use native.Mathlib.Omega.{arith}
 use Rattle.checked.proofs.Copying.{Copied, copied-none, copied-more, copied-long, copied-all}

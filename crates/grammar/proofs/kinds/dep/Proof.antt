@@ -3,10 +3,9 @@
 use borrow.Author.Needs.{needs}
 use mathlib.Core.Path.{_≡_, refl}
 use mathlib.Core.Bool.{true, false}
-use Prim.Native.Nat.{ℕ, _+_, _*_, _-_, _≤_, _<_}
+use Prim.Native.Nat.{ℕ, _-_, _≤_, _<_}
 use native.Mathlib.Omega.{arith}
 use borrow.Author.Tests.{le-leb, lt-leb}
-use lib.ListN.{getD}
 use Rattle.numbers.specs.Size.{sizeOf}
 use Rattle.numbers.proofs.size.Laws.{by-size}
 use Rattle.grammar.specs.Rows.{further, few, count, depRow}

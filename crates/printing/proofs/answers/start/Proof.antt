@@ -1,7 +1,6 @@
 -- `printing::answers::start` gives the table's own refusal, then 11.
 -- Assumes nothing.
 use borrow.Author.Needs.{needs}
-use native.Mathlib.Omega.{arith}
 use Rattle.printing.proofs.answers.Laws.{start-11, start-in, start-not}
 use Rattle.printing.proofs.answers.start.Statement.{statement}
 use Rattle.printing.proofs.answers.start.Tie as tie

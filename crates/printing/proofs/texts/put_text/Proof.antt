@@ -2,7 +2,6 @@
 -- Assumes nothing.
 use borrow.Author.Needs.{needs}
 use Prim.Native.Nat.{_-_}
-use native.Mathlib.Omega.{arith}
 use lib.ListN.{length}
 use Rattle.printing.proofs.texts.Copying.{Copying, copy-start, copy-same, copy-more, copy-full, copy-end}
 use Rattle.printing.proofs.texts.put_text.Statement.{statement}

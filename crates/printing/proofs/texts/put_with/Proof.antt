@@ -2,7 +2,7 @@
 -- Assumes nothing.
 use borrow.Author.Needs.{needs}
 use native.Mathlib.Omega.{arith}
-use mathlib.Core.Path.{refl, _∙_}
+use mathlib.Core.Path.{refl}
 use Rattle.walk.proofs.Fills.{same, within, then}
 use Rattle.printing.proofs.texts.put_with.Statement.{statement}
 use Rattle.printing.proofs.texts.put_with.Tie as tie

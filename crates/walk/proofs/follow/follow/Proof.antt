@@ -1,6 +1,5 @@
 -- `walk::follow::follow` goes on through fixes and agains.
 -- Assumes nothing.
-use borrow.Author.Needs.{needs}
 use native.Mathlib.Omega.{arith}
 use Rattle.walk.proofs.Nodes.{in-plan}
 use Rattle.walk.proofs.Follows.{Following, follow-none, follow-more}

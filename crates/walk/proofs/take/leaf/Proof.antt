@@ -1,9 +1,7 @@
 -- `walk::take::leaf` reads a part that is one cell.
 -- Assumes nothing.
 use borrow.Author.Needs.{needs}
-use mathlib.Core.Path.{_∙_, ap}
 use native.Mathlib.Omega.{arith}
-use Rattle.walk.specs.Got.{gotOf}
 use Rattle.walk.proofs.Looks.{cell-in}
 use Rattle.walk.proofs.Leaves.{leaf-none, leaf-nats, leaf-below, leaf-large}
 use Rattle.walk.proofs.take.leaf.Statement.{statement}
