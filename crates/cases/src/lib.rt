@@ -11,7 +11,9 @@ pub use writing::Written;
 pub use writing::write;
 ghost use mathlib.Core.Path.{_≡_};
 ghost use Rattle.grammar.specs.Verdict.{verdict};
+use checked::prepared::PLAN;
 use checked::prepared::SMALL;
+use checked::prepared::SMALL_PLAN;
 use checked::prepared::prepare;
 
 // Whether a table is a grammar: accepted, or the refusal and its node.
@@ -19,9 +21,9 @@ pub fn check(table: &[u64], pool: &[u64]) -> Verdict
     ensures { λ r. ⌜ r ≡ verdict (now (table .entry)) (now (pool .entry)) ⌝ }
 {
     if table.len() <= SMALL {
-        let mut plan = [0u64; 64];
+        let mut plan = [0u64; SMALL_PLAN];
         return prepare(table, pool, &mut plan);
     }
-    let mut plan = [0u64; 1024];
+    let mut plan = [0u64; PLAN];
     prepare(table, pool, &mut plan)
 }

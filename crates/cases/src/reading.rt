@@ -8,7 +8,9 @@ ghost use Rattle.checked.specs.Prepared.{Blank, Planning};
 ghost use Rattle.cases.specs.Read.{found, finds, reads};
 use checked::fits::DEPTH;
 use checked::fits::MOST_CELLS;
+use checked::prepared::PLAN;
 use checked::prepared::SMALL;
+use checked::prepared::SMALL_PLAN;
 use checked::prepared::prepare;
 use grammar::refusal::Refusal;
 use grammar::refusal::Verdict;
@@ -77,9 +79,9 @@ pub fn read(table: &[u64], pool: &[u64], start: usize, cells: &[u64]) -> Found
     ensures { λ r. ⌜ r ≡ reads (now (table .entry)) (now (pool .entry)) start (now (cells .entry)) ⌝ }
 {
     if table.len() <= SMALL {
-        let mut plan = [0u64; 64];
+        let mut plan = [0u64; SMALL_PLAN];
         return read_with(&mut plan, table, pool, start, cells);
     }
-    let mut plan = [0u64; 1024];
+    let mut plan = [0u64; PLAN];
     read_with(&mut plan, table, pool, start, cells)
 }

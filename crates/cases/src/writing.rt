@@ -10,9 +10,12 @@ ghost use Rattle.checked.specs.declared.fits.Fit.the-variants.{Cells};
 ghost use Rattle.cases.specs.Write.{Wrote, WrotePlanned};
 use checked::copy::copy;
 use checked::fits::Fit;
+use checked::fits::KEPT;
 use checked::fits::fits;
 use checked::fits::room_for;
+use checked::prepared::PLAN;
 use checked::prepared::SMALL;
+use checked::prepared::SMALL_PLAN;
 use checked::prepared::prepare;
 use grammar::refusal::Refusal;
 use grammar::refusal::Verdict;
@@ -95,7 +98,7 @@ fn write_with(
     match v {
         Verdict::Refused(r, k) => Written::Refused(r, k),
         Verdict::Accepted => {
-            let mut scratch = [0u64; 64];
+            let mut scratch = [0u64; KEPT];
             write_planned(table, pool, plan, start, number, &mut scratch, cells)
         }
     }
@@ -106,9 +109,9 @@ pub fn write(table: &[u64], pool: &[u64], start: usize, number: u64, cells: &mut
     ensures { λ r. ⌜ Wrote (now (table .entry)) (now (pool .entry)) start number (now (cells .entry)) (now (cells .exit)) r ⌝ }
 {
     if table.len() <= SMALL {
-        let mut plan = [0u64; 64];
+        let mut plan = [0u64; SMALL_PLAN];
         return write_with(&mut plan, table, pool, start, number, cells);
     }
-    let mut plan = [0u64; 1024];
+    let mut plan = [0u64; PLAN];
     write_with(&mut plan, table, pool, start, number, cells)
 }

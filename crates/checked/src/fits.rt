@@ -15,6 +15,9 @@ pub const DEPTH: usize = 200;
 
 pub const MOST_CELLS: usize = 65536;
 
+// The cells that a call keeps while it decides: most cases are no longer.
+pub const KEPT: usize = 64;
+
 // The count of the case's cells, or why it is refused.
 pub enum Fit {
     Cells(usize),

@@ -8,9 +8,13 @@ const MOST_NODES: usize = 256;
 
 const MOST_WORDS: usize = 4096;
 
-// The words of a table of 16 nodes: up to here a call takes a plan of 16 rows, else one of 256. A small
-// table does not pay for the largest.
+// The words of a table of 16 nodes: up to here a call takes a plan of 16 rows, else one of 256, four words
+// a row. A small table does not pay for the largest.
 pub const SMALL: usize = 48;
+
+pub const SMALL_PLAN: usize = 64;
+
+pub const PLAN: usize = 1024;
 
 // "The whole check: word and pool lengths (1, node 0); then nodes rising ..; then cycles."
 pub fn prepare(table: &[u64], pool: &[u64], plan: &mut [u64]) -> Verdict

@@ -5,7 +5,9 @@ ghost use Rattle.checked.specs.Prepared.{Blank, Planning};
 ghost use Rattle.rows.specs.Reader.{nextOf, afterOf, strideOf, stridePlanned};
 use checked::item::Item;
 use checked::item::item_at;
+use checked::prepared::PLAN;
 use checked::prepared::SMALL;
+use checked::prepared::SMALL_PLAN;
 use checked::prepared::prepare;
 use grammar::refusal::Refusal;
 use grammar::refusal::Verdict;
@@ -86,10 +88,10 @@ fn stride_at(table: &[u64], pool: &[u64], start: usize, row: &[u64], at: usize) 
     ensures { λ r. ⌜ r ≡ strideOf (now (table .entry)) (now (pool .entry)) start (now (row .entry)) at ⌝ }
 {
     if table.len() <= SMALL {
-        let mut plan = [0u64; 64];
+        let mut plan = [0u64; SMALL_PLAN];
         return stride_with(&mut plan, table, pool, start, row, at);
     }
-    let mut plan = [0u64; 1024];
+    let mut plan = [0u64; PLAN];
     stride_with(&mut plan, table, pool, start, row, at)
 }
 

@@ -10,7 +10,9 @@ use super::answer::Row;
 use checked::copy::copy;
 use checked::item::Item;
 use checked::item::item_at;
+use checked::prepared::PLAN;
 use checked::prepared::SMALL;
+use checked::prepared::SMALL_PLAN;
 use checked::prepared::prepare;
 use grammar::refusal::Refusal;
 use grammar::refusal::Verdict;
@@ -148,9 +150,9 @@ pub fn read_row(
     ensures { λ r. ⌜ GotRow (now (table .entry)) (now (pool .entry)) start (now (cells .entry)) (now (numbers .entry)) (now (numbers .exit)) r ⌝ }
 {
     if table.len() <= SMALL {
-        let mut plan = [0u64; 64];
+        let mut plan = [0u64; SMALL_PLAN];
         return read_row_with(&mut plan, table, pool, start, cells, numbers);
     }
-    let mut plan = [0u64; 1024];
+    let mut plan = [0u64; PLAN];
     read_row_with(&mut plan, table, pool, start, cells, numbers)
 }

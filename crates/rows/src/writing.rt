@@ -11,8 +11,11 @@ ghost use Rattle.rows.specs.declared.answer.Row.the-variants.{Done};
 use super::answer::Row;
 use checked::copy::copy;
 use checked::fits::Fit;
+use checked::fits::KEPT;
 use checked::fits::fits;
+use checked::prepared::PLAN;
 use checked::prepared::SMALL;
+use checked::prepared::SMALL_PLAN;
 use checked::prepared::prepare;
 use grammar::refusal::Refusal;
 use grammar::refusal::Verdict;
@@ -119,7 +122,7 @@ fn write_row_with(
     match v {
         Verdict::Refused(r, k) => Row::Refused(r, k, 0),
         Verdict::Accepted => {
-            let mut scratch = [0u64; 64];
+            let mut scratch = [0u64; KEPT];
             write_planned(table, pool, plan, start, numbers, &mut scratch, cells)
         }
     }
@@ -136,9 +139,9 @@ pub fn write_row(
     ensures { λ r. ⌜ WroteRow (now (table .entry)) (now (pool .entry)) start (now (numbers .entry)) (now (cells .entry)) (now (cells .exit)) r ⌝ }
 {
     if table.len() <= SMALL {
-        let mut plan = [0u64; 64];
+        let mut plan = [0u64; SMALL_PLAN];
         return write_row_with(&mut plan, table, pool, start, numbers, cells);
     }
-    let mut plan = [0u64; 1024];
+    let mut plan = [0u64; PLAN];
     write_row_with(&mut plan, table, pool, start, numbers, cells)
 }
