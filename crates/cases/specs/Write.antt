@@ -1,9 +1,11 @@
 -- What `write` promises. 01: "Each call checks the table first, then 11, then 12, then walks; of 13 and 14 the one first met in walk order is given."
 --   writes     the answer for a table, its pool, a start node, a number and a room
 --   Wrote      the answer and the buffer's last words, for every input
+--   Settled    what is decided before the buffer is written
 --   written    01's number, node and count of an answer
 -- Assumes nothing.
 use mathlib.Core.Path.{_≡_}
+use mathlib.Core.Bool.{false}
 use mathlib.Core.List.{List}
 use Prim.Native.Nat.{ℕ}
 use lib.Dec.{ltb}
@@ -12,13 +14,14 @@ use Rattle.numbers.specs.Pick.{pick}
 use Rattle.grammar.specs.Table.{nodes}
 use Rattle.grammar.specs.Refusals.{numberOf}
 use Rattle.grammar.specs.Verdict.{verdict}
+use Rattle.grammar.specs.declared.refusal.Refusal.{Refusal}
 use Rattle.grammar.specs.declared.refusal.Refusal.the-variants.{NoSuchStart}
 use Rattle.grammar.specs.declared.refusal.Verdict.{Verdict}
 use Rattle.grammar.specs.declared.refusal.Verdict.the-variants.{Accepted, Refused as Refuses}
-use Rattle.walk.specs.Grammar.{grammarOf}
+use Rattle.walk.specs.Grammar.{Grammar, grammarOf}
 use Rattle.walk.specs.Walk.{walk, cells, depth}
 use Rattle.walk.specs.Filled.{over}
-use Rattle.checked.specs.Fits.{fitted}
+use Rattle.checked.specs.Fits.{asked, fitted}
 use Rattle.checked.specs.declared.fits.Fit.{Fit}
 use Rattle.checked.specs.declared.fits.Fit.the-variants.{Cells, Not}
 use Rattle.cases.specs.declared.writing.Written.{Written}
@@ -47,6 +50,15 @@ leaves (Refused r k) cs old = old
 pub record Wrote (t p : List ℕ) (i n : ℕ) (old last : List ℕ) (r : Written) : Type 0 where
   pub is : r ≡ writes t p i n (length old)
   pub holds : last ≡ leaves r (cells (walk (grammarOf t p) depth i n)) old
+
+-- a number that may be refused by 12 alone, since 13 and 14 are decided before anything is written
+abbrev pub Settled : Grammar → ℕ → ℕ → ℕ → Type 0
+Settled g i n room = (r : Refusal) → fitted g i n room ≡ Not r → asked (g .size i) n ≡ false
+
+-- of a grammar and a node of it
+pub record WroteCase (g : Grammar) (i n : ℕ) (old last : List ℕ) (r : Written) : Type 0 where
+  pub is : r ≡ wrote (fitted g i n (length old))
+  pub holds : last ≡ leaves r (cells (walk g depth i n)) old
 
 -- of an accepted table
 pub record WrotePlanned (t p : List ℕ) (i n : ℕ) (old last : List ℕ) (r : Written) : Type 0 where

@@ -1,16 +1,10 @@
 // From a number to cells.
-ghost use mathlib.Core.Path.{_≡_};
 ghost use lib.ListN.{length};
 ghost use Rattle.walk.specs.Grammar.{planned};
-ghost use Rattle.walk.specs.Filled.{over};
 ghost use Rattle.checked.specs.Prepared.{Blank, Planning, Stands};
-ghost use Rattle.checked.specs.Fits.{caseCells, fitted};
-ghost use Rattle.checked.specs.Kept.{Kept};
-ghost use Rattle.checked.specs.declared.fits.Fit.the-variants.{Cells};
-ghost use Rattle.cases.specs.Write.{Wrote, WrotePlanned};
-use checked::copy::copy;
+ghost use Rattle.cases.specs.Write.{Settled, Wrote, WroteCase, WrotePlanned};
+use checked::decided::decided;
 use checked::fits::Fit;
-use checked::fits::KEPT;
 use checked::fits::fits;
 use checked::fits::room_for;
 use checked::prepared::PLAN;
@@ -27,38 +21,32 @@ pub enum Written {
     Refused(Refusal, u64),
 }
 
-// The cells that the deciding walk has kept; or else the walk is made again, over the buffer itself.
-fn settle(
+// The second pass, over the lent buffer: what could be refused half-way is decided before.
+fn write_settled(
     plan: &[u64],
     pool: &[u64],
     start: usize,
     number: u64,
-    kept: &[u64],
-    count: usize,
     cells: &mut [u64],
-)
+) -> Written
     requires { ⌜ Stands (now plan) (now pool) start ⌝ }
-    requires { ⌜ fitted (planned (now plan) (now pool)) start number (length (now cells)) ≡ Cells count ⌝ }
-    requires { ⌜ Kept (caseCells (planned (now plan) (now pool)) start number) (now kept) count (length (now cells)) ⌝ }
-    ensures { λ _. ⌜ now (cells .exit) ≡ over (caseCells (planned (now (plan .entry)) (now (pool .entry))) start number) (now (cells .entry)) ⌝ }
+    requires { ⌜ Settled (planned (now plan) (now pool)) start number (length (now cells)) ⌝ }
+    ensures { λ r. ⌜ WroteCase (planned (now (plan .entry)) (now (pool .entry))) start number (now (cells .entry)) (now (cells .exit)) r ⌝ }
 {
-    if count <= kept.len() {
-        copy(kept, count, cells);
-        return;
+    match fits(plan, pool, start, number, cells.len(), cells) {
+        Fit::Cells(k) => Written::Done(k),
+        Fit::Not(r) => Written::Refused(r, 0),
     }
-    fits(plan, pool, start, number, cells.len(), cells);
 }
 
-// The call on an accepted table: 11, then 12, then the walk. Where every case of the start fits, the walk
-// is over the lent buffer; else it decides over a buffer of its own, and writes only once the case is
-// known to fit.
+// The call on an accepted table: 11, then 12, then the walk. The first pass decides and writes nothing;
+// where every case of the start fits, there is nothing for it to decide.
 fn write_planned(
     table: &[u64],
     pool: &[u64],
     plan: &[u64],
     start: usize,
     number: u64,
-    scratch: &mut [u64],
     cells: &mut [u64],
 ) -> Written
     requires { ⌜ Planning (now table) (now pool) (now plan) ⌝ }
@@ -68,16 +56,10 @@ fn write_planned(
         return Written::Refused(Refusal::NoSuchStart, 0);
     }
     if sure(plan, start, room_for(cells.len())) {
-        return match fits(plan, pool, start, number, cells.len(), cells) {
-            Fit::Cells(count) => Written::Done(count),
-            Fit::Not(refusal) => Written::Refused(refusal, 0),
-        };
+        return write_settled(plan, pool, start, number, cells);
     }
-    match fits(plan, pool, start, number, cells.len(), scratch) {
-        Fit::Cells(k) => {
-            settle(plan, pool, start, number, scratch, k, cells);
-            Written::Done(k)
-        }
+    match decided(plan, pool, start, number, cells.len()) {
+        Fit::Cells(_) => write_settled(plan, pool, start, number, cells),
         Fit::Not(r) => Written::Refused(r, 0),
     }
 }
@@ -97,10 +79,7 @@ fn write_with(
     let v = prepare(table, pool, plan);
     match v {
         Verdict::Refused(r, k) => Written::Refused(r, k),
-        Verdict::Accepted => {
-            let mut scratch = [0u64; KEPT];
-            write_planned(table, pool, plan, start, number, &mut scratch, cells)
-        }
+        Verdict::Accepted => write_planned(table, pool, plan, start, number, cells),
     }
 }
 

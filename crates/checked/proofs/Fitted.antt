@@ -16,11 +16,11 @@ use Rattle.numbers.specs.Size.{Size, finite, endless}
 use Rattle.grammar.specs.declared.refusal.Refusal.the-variants.{NoSuchNumber}
 use Rattle.walk.specs.Grammar.{Grammar}
 use Rattle.walk.specs.Walk.{Event, cell, deep, walk, cells, depth}
-use Rattle.walk.specs.Room.{RoomLeft, Left, TooDeep, NoRoom, tallied}
+use Rattle.walk.specs.Room.{Left, tallied}
 use Rattle.checked.specs.Fits.{asked, Asked, roomFor, outcome, fitted}
 use Rattle.checked.specs.declared.fits.Fit.the-variants.{Cells, Not}
 use Rattle.walk.proofs.Lays.{tally-count}
-use Rattle.checked.proofs.Fitting.{was-asked}
+use Rattle.checked.proofs.Fitting.{was-asked, cells-left}
 
 pub is-asked : (s : Size) (n : ℕ) → Asked s n → asked s n ≡ true
 is-asked (finite m) n a = rw (lt-ltb n m (a .below), lt-ltb n (2 ^ 62) (a .small))
@@ -44,12 +44,6 @@ tallied-left room [] e = refl
 tallied-left room (deep ∷ es) e = let z : _≡_ {A = ℕ} 0 1 = cc in absurd (omega arith)
 tallied-left zero (cell c ∷ es) e = let z : _≡_ {A = ℕ} 0 1 = cc in absurd (omega arith)
 tallied-left (suc room) (cell c ∷ es) e = ap (λ (l : List Event). cell c ∷ l) (tallied-left room es e)
-
--- ---- an answer with a count
-cells-left : (room k : ℕ) (x : RoomLeft) → outcome room x ≡ Cells k → (rest : ℕ) × (x ≡ Left rest) × (k ≡ room - rest)
-cells-left room k (Left rest) e = let s : room - rest ≡ k = cc in (rest, refl, sym s)
-cells-left room k TooDeep e = let z : _≡_ {A = ℕ} 0 1 = cc in absurd (omega arith)
-cells-left room k NoRoom e = let z : _≡_ {A = ℕ} 0 1 = cc in absurd (omega arith)
 
 module _ (g : Grammar) (i n room : ℕ) where
   pub fitted-is : (cs : List ℕ) → Asked (g .size i) n → walk g depth i n ≡ map cell cs → length cs ≤ roomFor room → fitted g i n room ≡ Cells (length cs)

@@ -1,9 +1,11 @@
-// One number on a checked table: "12, then the walk with the room left".
+// One number on a checked table: "12, then the walk with the room left". This is the second pass, which writes.
 ghost use mathlib.Core.Path.{_≡_};
+ghost use Prim.Native.Nat.{_^_, _<_, _≤_};
 ghost use Rattle.numbers.specs.Size.{sizeOf};
 ghost use Rattle.walk.specs.Grammar.{planned};
+ghost use Rattle.walk.specs.Laid.{leftOf};
 ghost use Rattle.checked.specs.Prepared.{Stands};
-ghost use Rattle.checked.specs.Fits.{roomFor, FitOver};
+ghost use Rattle.checked.specs.Fits.{roomFor, outcome, FitOver};
 ghost use Rattle.checked.specs.Fits.{asked as isAsked};
 use grammar::refusal::Refusal;
 use numbers::size::LARGEST;
@@ -14,9 +16,6 @@ use walk::lay::lay;
 pub const DEPTH: usize = 200;
 
 pub const MOST_CELLS: usize = 65536;
-
-// The cells that a call keeps while it decides: most cases are no longer.
-pub const KEPT: usize = 64;
 
 // The count of the case's cells, or why it is refused.
 pub enum Fit {
@@ -32,7 +31,7 @@ pub fn room_for(room: usize) -> usize
 }
 
 // "Numbers asked for are below 2^62 and below the size."
-fn asked(size: u64, number: u64) -> bool
+pub fn asked(size: u64, number: u64) -> bool
     ensures { λ r. ⌜ r ≡ isAsked (sizeOf size) number ⌝ }
 {
     if number < LARGEST {
@@ -41,8 +40,21 @@ fn asked(size: u64, number: u64) -> bool
     false
 }
 
-// Decides by the room, and writes as much of the case as the lent buffer holds: a call that decides first
-// lends one of its own.
+// What a walk hands back, as an answer: the count of cells, or "of 13 and 14 the one first met".
+pub fn fit_of(most: usize, rest: usize) -> Fit
+    requires { ⌜ (rest < 2 ^ 63 → rest ≤ most) ⌝ }
+    ensures { λ r. ⌜ r ≡ outcome most (leftOf rest) ⌝ }
+{
+    if rest < TOO_DEEP {
+        return Fit::Cells(most - rest);
+    }
+    if rest == TOO_DEEP {
+        return Fit::Not(Refusal::TooDeep);
+    }
+    Fit::Not(Refusal::NoRoom)
+}
+
+// It decides as the first pass does, and writes as much of the case as the lent buffer holds.
 pub fn fits(
     plan: &[u64],
     pool: &[u64],
@@ -56,14 +68,7 @@ pub fn fits(
 {
     if asked(plan[4 * start + 3], number) {
         let most = room_for(room);
-        let rest = lay(plan, pool, start, number, DEPTH, most, out);
-        if rest < TOO_DEEP {
-            return Fit::Cells(most - rest);
-        }
-        if rest == TOO_DEEP {
-            return Fit::Not(Refusal::TooDeep);
-        }
-        return Fit::Not(Refusal::NoRoom);
+        return fit_of(most, lay(plan, pool, start, number, DEPTH, most, out));
     }
     Fit::Not(Refusal::NoSuchNumber)
 }

@@ -1,6 +1,6 @@
 -- The items of a row that is written, in turn.
---   Tallying      a row's answer is that of its rest, so many items and cells later
---   Laying        and its first items' cells are over the buffer's front, as far as that goes
+--   Tallying      the first pass: a row's answer is that of its rest, so many items and cells later
+--   Laying        the second pass: and its first items' cells are over the buffer's front
 --   done-row      all items fit: the counts are the row's
 -- Assumes nothing.
 use mathlib.Core.Path.{_≡_, refl, sym, ap, _∙_}
@@ -86,50 +86,55 @@ module _ (g : Grammar) (i : ℕ) where
   unfolding rowOf
   row-more ns j l = rw (add-one, take-suc ns j 0 l) (row-append (take j ns) (getD ns j 0 ∷ []) ∙ rw append-nil)
 
-  -- ---- the loop: what is decided, and what the buffer holds
-  pub record Laying (room : ℕ) (ns old now : List ℕ) (j used : ℕ) : Type 0 where
-    pub tally : Tallying room ns j used
+  -- ---- the second pass: what is decided, and what the buffer holds
+  pub record Laying (ns old now : List ℕ) (j used : ℕ) : Type 0 where
+    pub tally : Tallying (length old) ns j used
     pub many : used ≡ length (rowOf g i (take j ns))
     pub holds : now ≡ over (rowOf g i (take j ns)) old
 
-  pub laying-none : (room : ℕ) (ns old : List ℕ) → Laying room ns old old 0 0
+  pub laying-none : (ns old : List ℕ) → Laying ns old old 0 0
   unfolding rowOf over
-  laying-none room ns old = record { tally = tallying-none room ns; many = refl; holds = refl }
+  laying-none ns old = record { tally = tallying-none (length old) ns; many = refl; holds = refl }
 
-  pub laying-long : {room : ℕ} {ns old now : List ℕ} {j used : ℕ} → Laying room ns old now j used → length now ≡ length old
-  laying-long {ns = ns} {old = old} {j = j} h = ap length (h .holds) ∙ length-over (rowOf g i (take j ns)) old
+  module _ {ns old now : List ℕ} {j used : ℕ} (h : Laying ns old now j used) where
+    pub laying-long : length now ≡ length old
+    laying-long = ap length (h .holds) ∙ length-over (rowOf g i (take j ns)) old
 
-  module _ {room : ℕ} {ns old now part last : List ℕ} {j used at : ℕ} (h : Laying room ns old now j used) (l : j < length ns) (a : at ≡ min used (length now))
-      (p : part ≡ take (length now - at) (drop at now)) {f : Fit} (e : FitOver g i (getD ns j 0) (room - used) part last f) where
-    after : List ℕ
-    after = take at now ++ (last ++ drop (length now - at) (drop at now))
+    pub laying-within : used ≤ length now
+    laying-within = omega (arith, h .tally .fits, laying-long)
 
-    after-long : length after ≡ length old
-    unfolding after
-    after-long =
-        let q : part ≡ drop at now = p ∙ part-old at now in
-        omega (arith, laying-long h, e .long, ap length q, length-drop at now, length-take at now, length-append (take at now) (last ++ drop (length now - at) (drop at now)), length-append last (drop (length now - at) (drop at now)), ap length (part-rest at now))
+    pub laying-done : length ns ≤ j → RowOver g i ns old now (Done j used)
+    laying-done l = record { is = tallying-done (h .tally) l; long = laying-long; holds = λ m c x. h .holds ∙ rw (take-all j ns l) }
 
-    pub laying-more : {k : ℕ} → f ≡ Cells k → Laying room ns old (take at now ++ (last ++ drop (length now - at) (drop at now))) (j + 1) (used + k)
-    laying-more {k} q =
-        let (_, s, c, w) = fitted-cells g i (getD ns j 0) (room - used) k (sym (e .is) ∙ q) in
-        let n : at ≡ min (length (rowOf g i (take j ns))) (length old) = omega (arith, a, h .many, laying-long h) in
-        record {
-          tally = tallying-more (h .tally) l (e .is) q;
-          many = omega (arith, h .many, c, ap length (row-more ns j l), length-append (rowOf g i (take j ns)) (cells (walk g depth i (getD ns j 0))));
-          holds = rw (row-more ns j l) (then (record { count = n; holds = h .holds }) (record { count = refl; holds = e .holds k q }) p .holds);
-        }
+    module _ {part last : List ℕ} (l : j < length ns) (p : part ≡ take (length now - used) (drop used now)) {f : Fit} (e : FitOver g i (getD ns j 0) (length now - used) part last f) where
+      fit-is : f ≡ fitted g i (getD ns j 0) (length old - used)
+      fit-is = let s : length now - used ≡ length old - used = omega (arith, laying-long) in e .is ∙ rw s
 
-    pub laying-stops : {r : Refusal} → f ≡ Not r → RowOver g i room ns old (take at now ++ (last ++ drop (length now - at) (drop at now))) (Refused r 0 j)
-    unfolding after
-    laying-stops q = record { is = tallying-stops (h .tally) l (e .is) q; long = after-long; holds = λ m c x. let z : _≡_ {A = ℕ} 0 1 = cc in absurd (omega arith) }
+      pub laying-fits : {k : ℕ} → f ≡ Cells k → used + k ≤ length now
+      laying-fits q = omega (arith, tallying-fits (h .tally) l fit-is q, h .tally .fits, laying-long)
 
-  pub laying-done : {room : ℕ} {ns old now : List ℕ} {j used : ℕ} → Laying room ns old now j used → length ns ≤ j → RowOver g i room ns old now (Done j used)
-  laying-done {ns = ns} {old = old} {j = j} h l = record {
-    is = tallying-done (h .tally) l;
-    long = laying-long h;
-    holds = λ m c x. h .holds ∙ rw (take-all j ns l);
-  }
+      after : List ℕ
+      after = take used now ++ (last ++ drop (length now - used) (drop used now))
+
+      after-long : length after ≡ length old
+      unfolding after
+      after-long =
+          let q : part ≡ drop used now = p ∙ part-old used now in
+          omega (arith, laying-long, e .long, ap length q, length-drop used now, length-take used now, length-append (take used now) (last ++ drop (length now - used) (drop used now)), length-append last (drop (length now - used) (drop used now)), ap length (part-rest used now))
+
+      pub laying-more : {k : ℕ} → f ≡ Cells k → Laying ns old (take used now ++ (last ++ drop (length now - used) (drop used now))) (j + 1) (used + k)
+      laying-more {k} q =
+          let (_, s, c, w) = fitted-cells g i (getD ns j 0) (length now - used) k (sym (e .is) ∙ q) in
+          let n : used ≡ min (length (rowOf g i (take j ns))) (length old) = omega (arith, h .many, h .tally .fits) in
+          record {
+            tally = tallying-more (h .tally) l fit-is q;
+            many = omega (arith, h .many, c, ap length (row-more ns j l), length-append (rowOf g i (take j ns)) (cells (walk g depth i (getD ns j 0))));
+            holds = rw (row-more ns j l) (then (record { count = n; holds = h .holds }) (record { count = refl; holds = e .holds k q }) p .holds);
+          }
+
+      pub laying-stops : {r : Refusal} → f ≡ Not r → RowOver g i ns old (take used now ++ (last ++ drop (length now - used) (drop used now))) (Refused r 0 j)
+      unfolding after
+      laying-stops q = record { is = tallying-stops (h .tally) l fit-is q; long = after-long; holds = λ m c x. let z : _≡_ {A = ℕ} 0 1 = cc in absurd (omega arith) }
 
   -- ---- a row that is done
   pub onward-done : (f : Fit) (rest : ℕ → Row) {m c : ℕ} → onward f rest ≡ Done m c → (k : ℕ) × (items : ℕ) × (used : ℕ) × (f ≡ Cells k) × (rest k ≡ Done items used) × (m ≡ 1 + items) × (c ≡ k + used)

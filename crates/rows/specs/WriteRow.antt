@@ -42,9 +42,9 @@ unfoldable pub rowOf : Grammar → ℕ → List ℕ → List ℕ
 rowOf g i [] = []
 rowOf g i (n ∷ ns) = cells (walk g depth i n) ++ rowOf g i ns
 
--- the answer for the numbers, and what becomes of a buffer: a row that is done is over its front, as far as that goes
-pub record RowOver (g : Grammar) (i room : ℕ) (ns old last : List ℕ) (r : Row) : Type 0 where
-  pub is : r ≡ inTurn g i room ns
+-- the answer for the numbers, and what becomes of a buffer: a row that is done is over its front
+pub record RowOver (g : Grammar) (i : ℕ) (ns old last : List ℕ) (r : Row) : Type 0 where
+  pub is : r ≡ inTurn g i (length old) ns
   pub long : length last ≡ length old
   pub holds : (m c : ℕ) → r ≡ Done m c → last ≡ over (rowOf g i ns) old
 

@@ -1,6 +1,7 @@
 -- A dep's seconds, gone through one after the other.
---   Turning        the loop's invariant, and its turns
---   turn-two       what dep's visit is, by the split of finite or endless seconds
+--   Turning                       the loop's invariant, and its turns
+--   finite-split, endless-split   a dep's split, of finite or endless seconds
+--   chosen-in, chosen-two         what dep's visit is, by its split
 -- Assumes nothing.
 use mathlib.Core.Path.{_≡_, sym, ap, _∙_}
 use mathlib.Core.Bool.{false}
@@ -86,34 +87,20 @@ module _ {plan p : List ℕ} {a b n : ℕ} (d : DepReady plan p a b n) where
   not-endless : headSize plan p b < 2 ^ 63 → false ≡ allEndless (sizeIn plan) (take (firsts plan a) (drop b p))
   not-endless h = run-fails p b (firsts plan a) (d .inside) (λ c. isEndless (sizeIn plan c)) 0 (d .some) (rw add-zero (finite-word (headSize plan p b) h))
 
-  finite-split : headSize plan p b < 2 ^ 63
+  pub finite-split : headSize plan p b < 2 ^ 63
       → inTurn (counts (sizeIn plan) (take (firsts plan a) (drop b p))) n ≡ Dep.split (secondsOf (sizeIn plan) (take (firsts plan a) (drop b p))) n
   unfolding secondsOf Dep.split
   finite-split h = rw (← not-endless h)
 
-  endless-split : 2 ^ 63 ≤ headSize plan p b
+  pub endless-split : 2 ^ 63 ≤ headSize plan p b
       → Dep.split (endlesses (firsts plan a)) n ≡ Dep.split (secondsOf (sizeIn plan) (take (firsts plan a) (drop b p))) n
   unfolding secondsOf Dep.split
   endless-split h = rw (d .endless h, run-long p b (firsts plan a) (d .inside))
 
   module _ {q : Pair} (e : q ≡ Dep.split (secondsOf (sizeIn plan) (take (firsts plan a) (drop b p))) n) where
-    inside-is : b + q .first < length p
-    inside-is = rw e (omega (arith, d .inside, d .chosen))
+    pub chosen-in : b + q .first < length p
+    chosen-in = rw e (omega (arith, d .inside, d .chosen))
 
-    two-is : Two a (q .first) (getD p (b + q .first) 0) (q .second) ≡ stepOf (sizeIn plan) p (dep a b) n
+    pub chosen-two : Two a (q .first) (getD p (b + q .first) 0) (q .second) ≡ stepOf (sizeIn plan) p (dep a b) n
     unfolding stepOf
-    two-is = rw (d .counted, ← e, run-at p b (firsts plan a) (d .inside) (q .first) (rw e (d .chosen)))
-
-  module _ (h : headSize plan p b < 2 ^ 63) {q : Pair} (e : q ≡ inTurn (counts (sizeIn plan) (take (firsts plan a) (drop b p))) n) where
-    pub finite-in : b + q .first < length p
-    finite-in = inside-is (e ∙ finite-split h)
-
-    pub finite-two : Two a (q .first) (getD p (b + q .first) 0) (q .second) ≡ stepOf (sizeIn plan) p (dep a b) n
-    finite-two = two-is (e ∙ finite-split h)
-
-  module _ (h : 2 ^ 63 ≤ headSize plan p b) {q : Pair} (e : q ≡ Dep.split (endlesses (firsts plan a)) n) where
-    pub endless-in : b + q .first < length p
-    endless-in = inside-is (e ∙ endless-split h)
-
-    pub endless-two : Two a (q .first) (getD p (b + q .first) 0) (q .second) ≡ stepOf (sizeIn plan) p (dep a b) n
-    endless-two = two-is (e ∙ endless-split h)
+    chosen-two = rw (d .counted, ← e, run-at p b (firsts plan a) (d .inside) (q .first) (rw e (d .chosen)))

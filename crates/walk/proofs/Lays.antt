@@ -35,7 +35,7 @@ use Rattle.walk.proofs.Walks.{walk-shows, One, too-deep, one-cell, tall
 pub word-left : (w : ℕ) → w < 2 ^ 63 → leftOf w ≡ Left w
 word-left w l = rw (lt-ltb w (2 ^ 63) l)
 
-word-stops : (w : ℕ) → 2 ^ 63 ≤ w → (leftOf w ≡ TooDeep) ⊎ (leftOf w ≡ NoRoom)
+pub word-stops : (w : ℕ) → 2 ^ 63 ≤ w → (leftOf w ≡ TooDeep) ⊎ (leftOf w ≡ NoRoom)
 word-stops w l = rw (le-ltb w (2 ^ 63) l) (by (eqb w (2 ^ 63)))
   where
     by : (b : Bool) → (pick b TooDeep NoRoom ≡ TooDeep) ⊎ (pick b TooDeep NoRoom ≡ NoRoom)

@@ -20,3 +20,4 @@ pub mod Words
 pub mod Back
 pub mod Only
 pub mod Sures
+pub mod Tallies

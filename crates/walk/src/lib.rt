@@ -7,3 +7,4 @@ pub mod number;
 pub mod step;
 pub mod sure;
 pub mod take;
+pub mod tally;

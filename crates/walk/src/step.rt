@@ -4,12 +4,13 @@ ghost use mathlib.Core.List.{List};
 ghost use Prim.Native.Nat.{ℕ, _+_, _*_, _^_, _<_, _≤_};
 ghost use lib.ListN.{length, getD, take, drop};
 ghost use Rattle.numbers.specs.Dep.{inTurn};
+ghost use Rattle.numbers.specs.Dep;
 ghost use Rattle.grammar.specs.Node.{or, cons, dep};
 ghost use Rattle.grammar.specs.Rows.{count};
 ghost use Rattle.grammar.specs.Plan.{sizeIn};
 ghost use Rattle.walk.specs.Grammar.{planned};
-ghost use Rattle.walk.specs.Visit.{stepOf, visit, tagged, counts};
-ghost use Rattle.walk.specs.Good.{Visits, DepReady};
+ghost use Rattle.walk.specs.Visit.{stepOf, visit, tagged, counts, secondsOf};
+ghost use Rattle.walk.specs.Good.{Visits, DepReady, firsts};
 use grammar::kinds::AGAIN;
 use grammar::kinds::CONS;
 use grammar::kinds::DEP;
@@ -90,19 +91,25 @@ fn in_turn(plan: &[u64], pool: &[u64], at: usize, count: usize, n: u64) -> Pair
     }
 }
 
+// "dep (004)": the two parts' numbers, by the seconds' sizes.
+pub fn dep_parts(plan: &[u64], pool: &[u64], a: usize, b: usize, n: u64) -> Pair
+    requires { ⌜ DepReady (now plan) (now pool) a b n ⌝ }
+    ensures { λ r. ⌜ r ≡ Dep.split (secondsOf (sizeIn (now (plan .entry))) (take (firsts (now (plan .entry)) a) (drop b (now (pool .entry))))) n ⌝ }
+{
+    let m = plan[4 * a + 3];
+    let c = pool[b] as usize;
+    if plan[4 * c + 3] < ENDLESS {
+        return in_turn(plan, pool, b, m as usize, n);
+    }
+    numbers::dep::split_endless(m, n)
+}
+
 // "dep (004)": the second is chosen by the first part's number.
 fn dep_step(plan: &[u64], pool: &[u64], a: usize, b: usize, n: u64) -> Step
     requires { ⌜ DepReady (now plan) (now pool) a b n ⌝ }
     ensures { λ r. ⌜ r ≡ stepOf (sizeIn (now (plan .entry))) (now (pool .entry)) (dep a b) n ⌝ }
 {
-    let m = plan[4 * a + 3];
-    let c = pool[b] as usize;
-    if plan[4 * c + 3] < ENDLESS {
-        let q = in_turn(plan, pool, b, m as usize, n);
-        let x = q.first as usize;
-        return Step::Two(a, q.first, pool[b + x] as usize, q.second);
-    }
-    let q = numbers::dep::split_endless(m, n);
+    let q = dep_parts(plan, pool, a, b, n);
     let x = q.first as usize;
     Step::Two(a, q.first, pool[b + x] as usize, q.second)
 }

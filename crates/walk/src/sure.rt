@@ -75,6 +75,10 @@ pub fn sure(plan: &[u64], i: usize, room: usize) -> bool
     if NODES <= i {
         return false;
     }
+    // A fix is nearly always one of a recursion, and that has no width: FIX and AGAIN are the last kinds.
+    if FIX <= plan[4 * i] {
+        return false;
+    }
     let mut widths = [WIDE; NODES];
     for k in 0..i + 1 {
         widths[k] = width_of(plan, k, &widths);

@@ -1,8 +1,7 @@
 -- What the code of `write` has found, in the words of its promise.
---   wrote-11                 refused before the walk
---   wrote-not, wrote-cells   by what was decided
---   kept-of                  what the deciding walk kept
---   sure-not                 refused where every case fits: the buffer is as it was
+--   case-done, case-not, case-long    the second pass
+--   settled-cells, settled-sure       what is settled before it: by the first pass, or since every case fits
+--   wrote-11, wrote-not, wrote-case   by what was decided
 --   wrote-refused, wrote-planned   the call
 -- Assumes nothing.
 use mathlib.Core.Path.{_≡_, refl, sym, ap, _∙_}
@@ -17,64 +16,65 @@ use Rattle.grammar.specs.declared.refusal.Refusal.{Refusal}
 use Rattle.grammar.specs.declared.refusal.Refusal.the-variants.{NoSuchStart}
 use Rattle.grammar.specs.declared.refusal.Verdict.{Verdict}
 use Rattle.grammar.specs.declared.refusal.Verdict.the-variants.{Accepted, Refused as Refuses}
-use Rattle.walk.specs.Grammar.{planned}
-use Rattle.walk.specs.Filled.{over}
+use Rattle.walk.specs.Grammar.{Grammar, planned}
+use Rattle.walk.specs.Walk.{walk, cells, depth}
 use Rattle.walk.specs.Sure.{Sure}
 use Rattle.checked.specs.Prepared.{Planning, Prepared}
-use Rattle.checked.specs.Fits.{asked, roomFor, caseCells, fitted, FitOver}
-use Rattle.checked.specs.Kept.{Kept}
+use Rattle.checked.specs.Fits.{asked, roomFor, fitted, FitOver}
 use Rattle.checked.specs.declared.fits.Fit.{Fit}
 use Rattle.checked.specs.declared.fits.Fit.the-variants.{Cells, Not}
 use Rattle.checked.proofs.Walking.{same-grammar, walkable}
-use Rattle.checked.proofs.Fitted.{fitted-is, fitted-cells}
+use Rattle.checked.proofs.Copying.{over-long}
+use Rattle.checked.proofs.Fitted.{fitted-is}
 use Rattle.checked.proofs.Fitting.{was-asked}
-use Rattle.cases.specs.Write.{wrote, walks, writes, Wrote, WrotePlanned}
+use Rattle.cases.specs.Write.{wrote, walks, writes, Settled, Wrote, WroteCase, WrotePlanned}
 use Rattle.cases.specs.declared.writing.Written.{Written}
 use Rattle.cases.specs.declared.writing.Written.the-variants.{Done, Refused}
+
+-- ---- the second pass
+module _ {g : Grammar} {i n : ℕ} {old last : List ℕ} {f : Fit} (e : FitOver g i n (length old) old last f) where
+  pub case-done : {k : ℕ} → f ≡ Cells k → WroteCase g i n old last (Done k)
+  case-done {k} q = record { is = ap wrote (sym q ∙ e .is); holds = e .holds k q }
+
+  pub case-not : Settled g i n (length old) → {r : Refusal} → f ≡ Not r → WroteCase g i n old last (Refused r 0)
+  case-not s {r} q = record { is = ap wrote (sym q ∙ e .is); holds = e .kept (s r (sym (e .is) ∙ q)) }
+
+pub case-long : {g : Grammar} {i n : ℕ} {old last : List ℕ} {r : Written} → WroteCase g i n old last r → length last ≡ length old
+case-long {g} {i} {n} {old} {r = Done k} w = over-long (cells (walk g depth i n)) old (w .holds)
+case-long {r = Refused r k} w = ap length (w .holds)
+
+-- ---- the first pass: a number whose cells are counted is settled
+pub settled-cells : (g : Grammar) (i n room : ℕ) {f : Fit} → f ≡ fitted g i n room → {k : ℕ} → f ≡ Cells k → Settled g i n room
+settled-cells g i n room e q = λ r u. let z : _≡_ {A = ℕ} 0 1 = cc in absurd (omega arith)
 
 module _ {t p plan : List ℕ} (h : Planning t p plan) (i n : ℕ) (old : List ℕ) where
   pub wrote-11 : nodes t ≤ i → WrotePlanned t p i n old old (Refused NoSuchStart 0)
   unfolding walks
   wrote-11 l = record { is = rw (le-ltb i (nodes t) l); holds = refl }
 
-  -- where every case fits, the only refusal is 12, before the walk
-  sure-kept : i < nodes t → {room : ℕ} → room ≡ roomFor (length old) → Sure plan i room → {last : List ℕ} {f : Fit} → FitOver (planned plan p) i n (length old) old last f
-      → {r : Refusal} → f ≡ Not r → last ≡ old
-  sure-kept l {room} m s {last} {f} e {r} q = by (asked (planned plan p .size i) n) refl
-    where
-      by : (b : Bool) → asked (planned plan p .size i) n ≡ b → last ≡ old
-      by false u = e .kept u
-      by true u =
-          let a = was-asked (planned plan p .size i) n u in
-          let w = s .fits p n (record { walks = walkable h; node = l; below = a .below }) in
-          let k : f ≡ Cells (length (w .case)) = e .is ∙ fitted-is (planned plan p) i n (length old) (w .case) a (w .shows) (omega (arith, w .few, m)) in
-          let z : _≡_ {A = ℕ} 0 1 = cc in
-          absurd (omega arith)
+  module _ (l : i < nodes t) where
+    -- where every case fits, the only refusal is 12
+    pub settled-sure : {room : ℕ} → room ≡ roomFor (length old) → Sure plan i room → Settled (planned plan p) i n (length old)
+    settled-sure m s r q = by (asked (planned plan p .size i) n) refl
+      where
+        by : (b : Bool) → asked (planned plan p .size i) n ≡ b → asked (planned plan p .size i) n ≡ false
+        by false u = u
+        by true u =
+            let a = was-asked (planned plan p .size i) n u in
+            let w = s .fits p n (record { walks = walkable h; node = l; below = a .below }) in
+            let k : fitted (planned plan p) i n (length old) ≡ Cells (length (w .case)) = fitted-is (planned plan p) i n (length old) (w .case) a (w .shows) (omega (arith, w .few, m)) in
+            let z : _≡_ {A = ℕ} 0 1 = cc in
+            absurd (omega arith)
 
-  pub sure-not : (l : i < nodes t) {room : ℕ} → room ≡ roomFor (length old) → Sure plan i room → {last : List ℕ} {f : Fit}
-      → FitOver (planned plan p) i n (length old) old last f → {r : Refusal} → f ≡ Not r → WrotePlanned t p i n old last (Refused r 0)
-  unfolding walks
-  sure-not l m s e q = record { is = rw (lt-ltb i (nodes t) l, ← same-grammar h, ← e .is, q); holds = sure-kept l m s e q }
-
-  module _ (l : i < nodes t) {f : Fit} (e : f ≡ fitted (planned plan p) i n (length old)) where
-    walks-is : walks t p i n (length old) ≡ wrote f
+    walks-is : walks t p i n (length old) ≡ wrote (fitted (planned plan p) i n (length old))
     unfolding walks
-    walks-is = rw (lt-ltb i (nodes t) l, e, same-grammar h)
+    walks-is = rw (lt-ltb i (nodes t) l, same-grammar h)
 
-    pub wrote-not : {r : Refusal} → f ≡ Not r → WrotePlanned t p i n old old (Refused r 0)
-    wrote-not q = record { is = sym (walks-is ∙ ap wrote q); holds = refl }
+    pub wrote-case : {last : List ℕ} {r : Written} → WroteCase (planned plan p) i n old last r → WrotePlanned t p i n old last r
+    wrote-case w = record { is = w .is ∙ sym walks-is; holds = rw (← same-grammar h) (w .holds) }
 
-    module _ {k : ℕ} (q : f ≡ Cells k) where
-      fitted-k : fitted (planned plan p) i n (length old) ≡ Cells k
-      fitted-k = sym e ∙ q
-
-      pub kept-of : (first : List ℕ) {kept : List ℕ} → kept ≡ over (caseCells (planned plan p) i n) first → Kept (caseCells (planned plan p) i n) kept k (length old)
-      kept-of first g =
-          let (a, s, c, w) = fitted-cells (planned plan p) i n (length old) k fitted-k in
-          record { old = first; holds = g; many = c; fits = omega arith }
-
-      pub wrote-cells : {last : List ℕ} → last ≡ over (caseCells (planned plan p) i n) old → WrotePlanned t p i n old last (Done k)
-      wrote-cells g = record { is = sym (walks-is ∙ ap wrote q); holds = rw (← same-grammar h) g }
+    pub wrote-not : {f : Fit} → f ≡ fitted (planned plan p) i n (length old) → {r : Refusal} → f ≡ Not r → WrotePlanned t p i n old old (Refused r 0)
+    wrote-not e q = record { is = ap wrote (sym q ∙ e) ∙ sym walks-is; holds = refl }
 
 -- ---- the call
 module _ {t p plan : List ℕ} {v : Verdict} (h : Prepared t p plan v) {i n : ℕ} {old : List ℕ} where

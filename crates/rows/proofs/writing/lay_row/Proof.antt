@@ -1,4 +1,4 @@
--- `rows::writing::lay_row` decides the items in turn, over a buffer.
+-- `rows::writing::lay_row` writes the items in turn.
 -- Assumes nothing.
 use borrow.Author.Needs.{needs}
 use mathlib.Core.Path.{refl}
@@ -6,15 +6,15 @@ use Prim.Native.Nat.{_-_}
 use native.Mathlib.Omega.{arith}
 use lib.ListN.{length}
 use Rattle.walk.specs.Grammar.{planned}
-use Rattle.rows.proofs.Turns.{Laying, laying-none, laying-long, laying-more, laying-stops, laying-done, tallying-fits}
+use Rattle.rows.proofs.Turns.{Laying, laying-none, laying-long, laying-within, laying-fits, laying-more, laying-stops, laying-done}
 use Rattle.rows.proofs.writing.lay_row.Statement.{statement}
 use Rattle.rows.proofs.writing.lay_row.Tie as tie
 
 abbrev Inv-loop : tie.InvT-loop
-Inv-loop plan pool start numbers room out₀ items₀ used₀ out items used = Laying (planned plan pool) start room numbers out₀ out items used
+Inv-loop plan pool start numbers cells₀ items₀ used₀ cells items used = Laying (planned plan pool) start numbers cells₀ cells items used
 
 abbrev μ-loop : tie.MeasureT-loop
-μ-loop plan pool start numbers room out₀ items₀ used₀ out items used = length numbers - items
+μ-loop plan pool start numbers cells₀ items₀ used₀ cells items used = length numbers - items
 
 pub lay-row-spec : {M : Type 1} → statement M
 lay-row-spec =
@@ -22,23 +22,22 @@ lay-row-spec =
     (tie.spec
     Inv-loop
     μ-loop
-    (λ c. laying-none _ _ _ _ _)
-    (λ c κs. search needs)
+    (λ c. laying-none _ _ _ _)
+    (λ c. laying-within _ _ (c .before .loop .inv))
     (λ c. search needs)
     (λ c. search needs)
-    (λ c. c .before .before .before .loop .inv .tally .fits)
-    (λ c. omega (arith, c .before .place .ensures, laying-long _ _ (c .before .before .before .loop .inv), c .before .before .before .before .before .before .before .before .good))
-    (λ c. omega (arith, c .before .place .ensures, laying-long _ _ (c .before .before .before .loop .inv)))
-    (λ c. omega (arith, c .before .place .ensures, laying-long _ _ (c .before .before .before .loop .inv)))
-    (λ c. omega (arith, c .before .place .ensures, laying-long _ _ (c .before .before .before .loop .inv)))
-    (λ c κs. c .before .before .before .before .before .before .before .before .before .pre)
+    (λ c. omega (arith, laying-within _ _ (c .before .before .loop .inv), laying-long _ _ (c .before .before .loop .inv), c .before .before .before .before .before .before .before .good))
+    (λ c. laying-within _ _ (c .before .before .loop .inv))
+    (λ c. laying-within _ _ (c .before .before .loop .inv))
+    (λ c. omega (arith, laying-within _ _ (c .before .before .loop .inv)))
+    (λ c κs. c .before .before .before .before .before .before .before .before .pre)
     (λ c. search needs)
-    (λ c. omega (arith, tallying-fits _ _ (c .before .before .before .before .before .before .before .before .before .before .loop .inv .tally) (c .before .before .before .before .before .before .before .before .before .loop-test .taken) (c .before .before .before .before .before .fits2 .ensures .is) (c .before .k .given .1), c .before .before .before .before .before .before .before .before .before .before .loop .inv .tally .fits, c .before .before .before .before .before .before .before .before .before .before .before .before .before .before .before .fits .room))
+    (λ c. omega (arith, laying-fits _ _ (c .before .before .before .before .before .before .before .before .before .loop .inv) (c .before .before .before .before .before .before .before .before .loop-test .taken) refl (c .before .before .before .before .before .fits2 .ensures) (c .before .k .given .1), laying-long _ _ (c .before .before .before .before .before .before .before .before .before .loop .inv), c .before .before .before .before .before .before .before .before .before .before .before .before .before .before .good))
     (λ c. search needs)
     (λ c. omega arith)
-    (λ c. laying-more _ _ (c .before .before .before .before .before .before .before .before .before .before .loop .inv) (c .before .before .before .before .before .before .before .before .before .loop-test .taken) (c .before .before .before .before .before .before .before .before .place .ensures) refl (c .before .before .before .before .before .fits2 .ensures) (c .before .k .given .1))
+    (λ c. laying-more _ _ (c .before .before .before .before .before .before .before .before .before .loop .inv) (c .before .before .before .before .before .before .before .before .loop-test .taken) refl (c .before .before .before .before .before .fits2 .ensures) (c .before .k .given .1))
     (λ c. search needs)
-    (λ c. laying-stops _ _ (c .before .before .before .before .before .before .before .before .before .before .loop .inv) (c .before .before .before .before .before .before .before .before .before .loop-test .taken) (c .before .before .before .before .before .before .before .before .place .ensures) refl (c .before .before .before .before .before .fits2 .ensures) (c .before .r .given .1) .long)
-    (λ c. laying-stops _ _ (c .before .before .before .before .before .before .before .before .before .before .loop .inv) (c .before .before .before .before .before .before .before .before .before .loop-test .taken) (c .before .before .before .before .before .before .before .before .place .ensures) refl (c .before .before .before .before .before .fits2 .ensures) (c .before .r .given .1))
+    (λ c. laying-stops _ _ (c .before .before .before .before .before .before .before .before .before .loop .inv) (c .before .before .before .before .before .before .before .before .loop-test .taken) refl (c .before .before .before .before .before .fits2 .ensures) (c .before .r .given .1) .long)
+    (λ c. laying-stops _ _ (c .before .before .before .before .before .before .before .before .before .loop .inv) (c .before .before .before .before .before .before .before .before .loop-test .taken) refl (c .before .before .before .before .before .fits2 .ensures) (c .before .r .given .1))
     (λ c. laying-long _ _ (c .before .loop .inv))
     (λ c. laying-done _ _ (c .before .loop .inv) (c .loop-test .left)))

@@ -1,0 +1,36 @@
+-- `rows::writing::decide_row` decides the items in turn.
+-- Assumes nothing.
+use borrow.Author.Needs.{needs}
+use Prim.Native.Nat.{_-_}
+use native.Mathlib.Omega.{arith}
+use lib.ListN.{length}
+use Rattle.walk.specs.Grammar.{planned}
+use Rattle.rows.proofs.Turns.{Tallying, tallying-none, tallying-fits, tallying-more, tallying-stops, tallying-done}
+use Rattle.rows.proofs.writing.decide_row.Statement.{statement}
+use Rattle.rows.proofs.writing.decide_row.Tie as tie
+
+abbrev Inv-loop : tie.InvT-loop
+Inv-loop plan pool start numbers room item₀ used₀ item used = Tallying (planned plan pool) start room numbers item used
+
+abbrev μ-loop : tie.MeasureT-loop
+μ-loop plan pool start numbers room item₀ used₀ item used = length numbers - item
+
+pub decide-row-spec : {M : Type 1} → statement M
+decide-row-spec =
+    tie.close
+    (tie.spec
+    Inv-loop
+    μ-loop
+    (λ c. tallying-none _ _ _ _)
+    (λ c. search needs)
+    (λ c. search needs)
+    (λ c. c .before .before .loop .inv .fits)
+    (λ c κs. c .before .before .before .before .before .before .pre)
+    (λ c. search needs)
+    (λ c. omega (arith, tallying-fits _ _ (c .before .before .before .before .before .before .loop .inv) (c .before .before .before .before .before .loop-test .taken) (c .before .before .before .decided .ensures) (c .before .k .given .1), c .before .before .before .before .before .before .loop .inv .fits, c .before .before .before .before .before .before .before .before .before .before .fits .room))
+    (λ c. search needs)
+    (λ c. omega arith)
+    (λ c. tallying-more _ _ (c .before .before .before .before .before .before .loop .inv) (c .before .before .before .before .before .loop-test .taken) (c .before .before .before .decided .ensures) (c .before .k .given .1))
+    (λ c. search needs)
+    (λ c. tallying-stops _ _ (c .before .before .before .before .before .before .loop .inv) (c .before .before .before .before .before .loop-test .taken) (c .before .before .before .decided .ensures) (c .before .r .given .1))
+    (λ c. tallying-done _ _ (c .before .loop .inv) (c .loop-test .left)))
