@@ -642,17 +642,19 @@ static void of_pool(u64 n, u64 count, u64 levels) {
     nodes = n, pool_words = count, start = levels, limit = 1ul << 48;
 }
 
+static void wide(void) {
+    pairs(15);
+    node(16, CONS, 13, 11), node(17, CONS, 14, 16), node(18, CONS, 15, 17);
+    endless(19, 18);
+}
+
 static void laid_out(u64 number) {
     switch (number) {
     case 1: pairs(6); break;
     case 2: pairs(7); break;
     case 3: pairs(10); break;
     case 4: pairs(13); break;
-    case 5:
-        pairs(15);
-        node(16, CONS, 13, 11), node(17, CONS, 14, 16), node(18, CONS, 15, 17);
-        endless(19, 18);
-        break;
+    case 5: wide(); break;
     case 6:
         node(0, BELOW, 256, 0), node(1, BELOW, 3, 0), node(2, BELOW, 1000, 0), node(3, BELOW, 1048576, 0);
         node(4, BELOW, 7, 0), node(5, DEP, 0, 0);
@@ -677,6 +679,11 @@ static void laid_out(u64 number) {
         node(254, FIX, 0, 0);
         endless(255, 254);
         break;
+    // at number 0
+    case 16: pairs(7), limit = 1; break;
+    case 17: pairs(10), limit = 1; break;
+    case 18: pairs(13), limit = 1; break;
+    case 19: wide(), limit = 1; break;
     default:
         node(0, BELOW, 1, 0), node(1, NATS, 0, 0), node(2, AGAIN, 5, 0), node(3, CONS, 1, 2);
         node(4, OR, 0, 3), node(5, FIX, 4, 0);

@@ -83,6 +83,16 @@ fn pairs(table: &mut [u64; MOST_TABLE_WORDS], levels: usize) -> Shape {
     endless(levels + 1, levels)
 }
 
+// The same grammar at number 0: all its cells are 0, so that each takes the same work.
+fn at_zero(shape: Shape) -> Shape {
+    Shape {
+        nodes: shape.nodes,
+        words: shape.words,
+        start: shape.start,
+        limit: 1,
+    }
+}
+
 // 32,768 + 16,384 + 8,192 + 2,048 nats.
 fn wide(table: &mut [u64; MOST_TABLE_WORDS]) -> Shape {
     put_pairs(table, 15);
@@ -210,6 +220,10 @@ pub fn laid_out(
         13 => lists(table, 25),
         14 => lists(table, 51),
         15 => agains(table),
+        16 => at_zero(pairs(table, 7)),
+        17 => at_zero(pairs(table, 10)),
+        18 => at_zero(pairs(table, 13)),
+        19 => at_zero(wide(table)),
         _ => numbers_list(table),
     }
 }
