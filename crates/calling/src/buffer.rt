@@ -1,6 +1,8 @@
 // The buffer that is lent to a call, with start words that show which of them the call changed.
+ghost use mathlib.Core.Path.{_≡_};
 ghost use Prim.Native.Nat.{_≤_};
 ghost use lib.ListN.{length};
+ghost use Rattle.calling.specs.Buffer.{startWord, Tells};
 use super::page::PAGE_BYTES;
 use super::page::put_number;
 use super::page::put_numbers;
@@ -10,7 +12,9 @@ pub const MOST_ROOM: usize = 70000;
 
 const LARGEST_WORD: u64 = 18446744073709551615;
 
-fn start_word(place: usize) -> u64 {
+fn start_word(place: usize) -> u64
+    ensures { λ r. ⌜ r ≡ startWord place ⌝ }
+{
     LARGEST_WORD - place as u64
 }
 
@@ -22,7 +26,9 @@ pub fn fill(buffer: &mut [u64]) {
     }
 }
 
-fn changed_from(buffer: &[u64], from: usize) -> bool {
+fn changed_from(buffer: &[u64], from: usize) -> bool
+    ensures { λ r. ⌜ Tells (now (buffer .entry)) from r ⌝ }
+{
     let mut i = from;
     while i < buffer.len() {
         if buffer[i] != start_word(i) {

@@ -13,8 +13,10 @@ mod row;
 mod state;
 mod write;
 
+ghost use mathlib.Core.Path.{_≡_};
 ghost use Prim.Native.Nat.{_<_};
 ghost use lib.ListN.{length};
+ghost use Rattle.calling.specs.Line.{readable as isReadable};
 ghost use Rattle.calling.specs.State.{Within};
 use buffer::MOST_ROOM;
 use libc::STDIN_FILENO;
@@ -25,11 +27,8 @@ use state::MOST_POOL_WORDS;
 use state::MOST_TABLE_WORDS;
 use state::State;
 
-// A longer input is unreadable as a whole.
-const MOST_BYTES: usize = 4194304;
-
-// One byte more than the longest input, to see that an input is longer.
-pub const INPUT_ROOM: usize = MOST_BYTES + 1;
+// One byte more than the longest input, to see that an input is longer: it is unreadable as a whole.
+pub const INPUT_ROOM: usize = 4194305;
 
 // Answers standard input on standard output. The room is lent, and not this function's own: of a
 // local array a proof writes out every byte.
@@ -42,8 +41,9 @@ pub fn answer_input(room: &mut [u8; INPUT_ROOM]) {
 // Answers each line of an input on standard output.
 fn answer_all(text: &[u8]) {
     let mut page = [0u8; PAGE_BYTES];
+    let mut state = state::without_table(0, 0);
     if !readable(text) {
-        let waiting = answers::unreadable(&mut page, 0);
+        let waiting = answers::unreadable(&mut page, state.used);
         page::flush(&page, waiting);
         return;
     }
@@ -51,7 +51,6 @@ fn answer_all(text: &[u8]) {
     let mut pool = [0u64; MOST_POOL_WORDS];
     let mut fields = [0u64; MOST_FIELDS];
     let mut buffer = [0u64; MOST_ROOM];
-    let mut state = state::without_table(0, 0);
     while state.at < text.len() {
         state = answer_line(
             text,
@@ -67,9 +66,11 @@ fn answer_all(text: &[u8]) {
 }
 
 // An input of no bytes has no line that could lack its LF.
-fn readable(text: &[u8]) -> bool {
+fn readable(text: &[u8]) -> bool
+    ensures { λ r. ⌜ r ≡ isReadable (now (text .entry)) ⌝ }
+{
     let size = text.len();
-    if MOST_BYTES < size {
+    if INPUT_ROOM <= size {
         return false;
     }
     if size == 0 {

@@ -1,7 +1,8 @@
 // Lines of bytes: the word that a line starts with, and where the fields behind it stand.
+ghost use mathlib.Core.Path.{_≡_};
 ghost use Prim.Native.Nat.{_≤_};
 ghost use lib.ListN.{length};
-ghost use Rattle.calling.specs.Line.{After};
+ghost use Rattle.calling.specs.Line.{After, wordSize};
 use lines::ascii::LF;
 use lines::ascii::SPACE;
 
@@ -31,7 +32,7 @@ pub fn after(text: &[u8], at: usize) -> usize
 
 // How many bytes stand before the first space, or before the line's LF.
 pub fn word_size(line: &[u8]) -> usize
-    ensures { λ r. ⌜ r ≤ length (now (line .entry)) ⌝ }
+    ensures { λ r. ⌜ (r ≡ wordSize (now (line .entry))) × (r ≤ length (now (line .entry))) ⌝ }
 {
     let mut i = 0;
     while i < line.len() {

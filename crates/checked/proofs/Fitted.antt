@@ -3,7 +3,7 @@
 --   fitted-is      the walk meets cells only and they are few enough, so they are counted
 --   fitted-cells   the cells are counted, so the number may be asked for, and its walk meets cells only
 -- Assumes nothing.
-use mathlib.Core.Path.{_≡_, refl, sym, ap}
+use mathlib.Core.Path.{_≡_, refl, ap}
 use mathlib.Core.Bool.{Bool, true, false}
 use mathlib.Core.List.{List, [], _∷_, map}
 use Prim.Native.Nat.{ℕ, zero, suc, _-_, _^_, _≤_}

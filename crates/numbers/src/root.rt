@@ -165,10 +165,13 @@ fn step_above(n: u64, near: u64) -> u64
 // Below this a guess is so near that no division is needed: deep in a large case nearly all numbers are small.
 const SMALL: u64 = 65536;
 
-// The first number from `near` down whose square is within n.
+// Below this one step of Newton's leaves at most a few numbers to the root, and from here on two.
+const MIDDLE: u64 = 4294967296;
+
+// The first number from `near` down whose square is within n: the root, where `near` is that or more.
 fn down(n: u64, near: u64) -> u64
     requires { ⌜ near < 2 ^ 32 ⌝ }
-    ensures { λ r. ⌜ r * r ≤ n ⌝ }
+    ensures { λ r. ⌜ (r * r ≤ n) × (Above n near → r ≡ root n) ⌝ }
 {
     let mut r = near;
     while n < r * r {
@@ -189,7 +192,7 @@ fn up(n: u64, from: u64) -> u64
     r
 }
 
-// From a number above the root Newton's steps fall until they meet it.
+// From any guess a step gives the root or more, and a near one from a near guess; then it goes down to the root.
 pub fn root_of(n: u64) -> u64
     ensures { λ r. ⌜ r ≡ root n ⌝ }
 {
@@ -200,9 +203,9 @@ pub fn root_of(n: u64) -> u64
     if n < SMALL {
         return up(n, down(n, near));
     }
-    let mut r = step_above(n, near);
-    while n < r * r {
-        r = (r + n / r) / 2;
+    let nearer = step_above(n, near);
+    if n < MIDDLE {
+        return down(n, nearer);
     }
-    r
+    down(n, step_above(n, nearer))
 }

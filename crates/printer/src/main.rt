@@ -1,9 +1,6 @@
 // Prints the cases that standard input asks for, on standard output.
 use libc::STDIN_FILENO;
-use printing::MOST_BYTES;
-
-// One byte more than the longest input, to see that an input is longer.
-const INPUT_ROOM: usize = MOST_BYTES + 1;
+use printing::INPUT_ROOM;
 
 fn main() {
     let mut room = [0u8; INPUT_ROOM];

@@ -5,7 +5,10 @@ use lines::line::Line;
 use lines::line::numbers_at;
 
 // "at most 65,536 bytes"; "Table and pool lines hold at most 768 and 4,096 numbers"
-pub const MOST_BYTES: usize = 65536;
+const MOST_BYTES: usize = 65536;
+
+// One byte more than the longest input, to see that an input is longer.
+pub const INPUT_ROOM: usize = MOST_BYTES + 1;
 
 pub const TABLE_WORDS: usize = 768;
 
@@ -57,7 +60,7 @@ fn one_each(text: &[u8], from: usize) -> bool
 fn read_table(text: &[u8], table: &mut [u64; TABLE_WORDS]) -> Line
     ensures { λ r. ⌜ ReadTable (now (text .entry)) (now (table .entry)) (now (table .exit)) r ⌝ }
 {
-    if MOST_BYTES < text.len() {
+    if INPUT_ROOM <= text.len() {
         return Line::Unreadable;
     }
     match numbers_at(text, 0, table) {

@@ -10,7 +10,7 @@ pub use answers::PAGE_BYTES;
 pub use answers::Said;
 pub use answers::answer_at;
 pub use answers::opening;
-pub use input::MOST_BYTES;
+pub use input::INPUT_ROOM;
 pub use input::POOL_WORDS;
 pub use input::TABLE_WORDS;
 pub use print::print_all;

@@ -8,10 +8,10 @@ use Rattle.calling.proofs.answer_all.Statement.{statement}
 use Rattle.calling.proofs.answer_all.Tie as tie
 
 abbrev Inv-loop : tie.InvT-loop
-Inv-loop text page₀ table₀ pool₀ fields₀ buffer₀ state₀ page table pool fields buffer state = Within text state
+Inv-loop text page₀ state₀ table₀ pool₀ fields₀ buffer₀ page state table pool fields buffer = Within text state
 
 abbrev μ-loop : tie.MeasureT-loop
-μ-loop text page₀ table₀ pool₀ fields₀ buffer₀ state₀ page table pool fields buffer state = length text - state .at
+μ-loop text page₀ state₀ table₀ pool₀ fields₀ buffer₀ page state table pool fields buffer = length text - state .at
 
 pub answer-all-spec : {M : Type 1} → statement M
 answer-all-spec =
@@ -22,8 +22,8 @@ answer-all-spec =
     (λ c κs. search needs)
     (λ c κs. search needs)
     (λ c κs. search needs)
-    (λ c. search needs)
     (λ c κs. search needs)
+    (λ c. search needs)
     (λ c. search needs)
     (λ c κs. search needs)
     (λ c. search needs)

@@ -1,19 +1,18 @@
 -- Newton's step for a square root, r ↦ (r + n / r) / 2.
 --   step-above    from any guess it gives the root or more
---   step-below    from a guess whose square is above n it gives less
---   stepped       so a guess that is the root or more stays so
+--   lowered       a guess that is more than the root may be lowered by one
 --   met           and once its square is within n it is the root
---   small-square  a word's root squared fits a word
+--   far-above     the root of a number that is not small is more than 1
 -- Assumes nothing.
 use mathlib.Core.Path.{_≡_, refl}
 use mathlib.Core.Bool.{Bool, true, false}
 use Prim.Native.Nat.{ℕ, zero, suc, _+_, _*_, _-_, _/_, _^_, _≤_, _<_}
-use native.Mathlib.Nat.{lt-div-mul-add, div-lt-iff-lt-mul, mul-le-mul}
+use native.Mathlib.Nat.{lt-div-mul-add, mul-le-mul}
 use native.Mathlib.Omega.{arith}
 use lib.Dec.{leb}
 use borrow.Author.Tests.{leb-true, leb-false}
 use Rattle.numbers.specs.Root.{Above, root}
-use Rattle.numbers.proofs.root.Near.{square-fits, ends}
+use Rattle.numbers.proofs.root.Near.{ends}
 
 -- four times a product is at most the square of the sum
 four-apart : (a b d : ℕ) → b ≡ a + d → 4 * (a * b) ≤ (a + b) * (a + b)
@@ -40,17 +39,9 @@ module _ (n r : ℕ) where
       by zero e = absurd (omega (arith, (rw e at h)))
       by (suc k) e = omega arith
 
-  pub quotient-below : n < r * r → n / r < r
-  quotient-below h = div-lt-iff-lt-mul {k = r} {x = n} {y = r} (above-zero h) .1 h
-
-  pub step-below : n < r * r → (r + n / r) / 2 < r
-  step-below h = omega (arith, quotient-below h)
-
-  pub small-square : Above n r → r * r < 2 ^ 64
-  small-square a = square-fits r (a .word)
-
-  pub stepped : Above n r → n < r * r → Above n ((r + n / r) / 2)
-  stepped a h = record { above = step-above (above-zero h); word = omega (arith, step-below h) }
+  -- one less is still the root or more, where the square is above n
+  pub lowered : Above n r → n < r * r → Above n (r - 1)
+  lowered a h = let e : r - 1 + 1 ≡ r = omega (arith, above-zero h) in record { above = rw e h; word = omega (arith, a .word) }
 
   pub met : Above n r → r * r ≤ n → r ≡ root n
   met a h = ends n r h (a .above)
@@ -58,3 +49,11 @@ module _ (n r : ℕ) where
 -- a word's root is at most 2^32 - 1
 pub most-above : (n : ℕ) → n < 2 ^ 64 → Above n (2 ^ 32 - 1)
 most-above n h = record { above = omega arith; word = omega arith }
+
+-- a guess that is the root of n or more is more than 1, where n is not small
+pub far-above : (n r : ℕ) → Above n r → 4 ≤ n → 1 < r
+far-above n r a l = by (leb r 1) refl
+  where
+    by : (q : Bool) → leb r 1 ≡ q → 1 < r
+    by true e = absurd (omega (arith, a .above, mul-le-mul {n₁ = r + 1} {m₁ = r + 1} {n₂ = 2} {m₂ = 2} (omega (arith, leb-true r 1 e)) (omega (arith, leb-true r 1 e)), l))
+    by false e = leb-false r 1 e

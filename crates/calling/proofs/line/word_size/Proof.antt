@@ -1,13 +1,15 @@
 -- `calling::line::word_size` goes byte by byte to a space, to an LF or to the end.
 -- Assumes nothing.
 use borrow.Author.Needs.{needs}
-use Prim.Native.Nat.{_-_, _≤_}
+use Prim.Native.Nat.{_-_}
+use native.Mathlib.Omega.{arith}
 use lib.ListN.{length}
+use Rattle.calling.proofs.Lines.{Sizing, sizing-none, sizing-all, sizing-ends, sizing-more, ends-space, ends-lf, ends-not}
 use Rattle.calling.proofs.line.word_size.Statement.{statement}
 use Rattle.calling.proofs.line.word_size.Tie as tie
 
 abbrev Inv-loop : tie.InvT-loop
-Inv-loop line i₀ i = i ≤ length line
+Inv-loop line i₀ i = Sizing line i
 
 abbrev μ-loop : tie.MeasureT-loop
 μ-loop line i₀ i = length line - i
@@ -18,12 +20,12 @@ word-size-spec =
     (tie.spec
     Inv-loop
     μ-loop
+    (λ c. sizing-none _)
     (λ c. search needs)
+    (λ c. (sizing-ends (c .before .before .before .loop .inv) (c .before .before .loop-test .taken) (ends-space _ (c .if1 .taken)), c .before .before .before .loop .inv .le))
     (λ c. search needs)
+    (λ c. (sizing-ends (c .before .before .before .before .before .loop .inv) (c .before .before .before .before .loop-test .taken) (ends-lf _ (c .before .before .if1 .left) (c .if2 .taken)), c .before .before .before .before .before .loop .inv .le))
     (λ c. search needs)
-    (λ c. search needs)
-    (λ c. search needs)
-    (λ c. search needs)
-    (λ c. search needs)
-    (λ c. search needs)
-    (λ c. search needs))
+    (λ c. omega arith)
+    (λ c. sizing-more (c .before .before .before .before .before .loop .inv) (c .before .before .before .before .loop-test .taken) (ends-not _ (c .before .before .if1 .left) (c .if2 .left)))
+    (λ c. (sizing-all (c .before .loop .inv) (c .loop-test .left), c .before .loop .inv .le)))
