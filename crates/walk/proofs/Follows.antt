@@ -1,5 +1,5 @@
 -- Fixes and agains: both walks go on to their part.
---   through                    what such a node shows, reads and leads to
+--   through, passes            what such a node shows, reads and leads to
 --   follow-none, follow-more   nothing followed yet; one node more
 -- Assumes nothing.
 use mathlib.Core.Path.{_≡_, refl, sym, _∙_}
@@ -12,7 +12,7 @@ use Rattle.numbers.specs.Size.{Below}
 use Rattle.grammar.specs.Node.{Node}
 use Rattle.grammar.proofs.ByKind.{by-kind}
 use Rattle.walk.specs.Grammar.{Grammar, planned, nodeIn}
-use Rattle.walk.specs.Visit.{stepOf}
+use Rattle.walk.specs.Visit.{stepOf, visit}
 use Rattle.walk.specs.Walk.{shown, walk}
 use Rattle.walk.specs.Reading.{Read, read, wrong, on, same, ahead, become, then, follow, taken}
 use Rattle.walk.specs.Good.{Single, Fits, Walkable, Visits}
@@ -45,6 +45,9 @@ module _ {plan p : List ℕ} (w : Walkable plan p) {i : ℕ} (l : i < w .count) 
       (λ e f. record { node = f .0; size = f .1 ∙ sym (f .2); step = λ n. refl; ahead = λ off q cs. refl; several = λ s. s })
       (λ e f. record { node = f .0; size = f .1 ∙ sym (f .2); step = λ n. refl; ahead = λ off q cs. refl; several = λ s. s })
       (λ m f. absurd f) (w .good .fits i l)
+
+  pub passes : (n : ℕ) → visit (planned plan p) i n ≡ Pass (aAt plan i) n
+  passes n = through .step n
 
   -- the writing walk
   through-shows : {d : ℕ} → 0 < d → (n : ℕ) → walk (planned plan p) d i n ≡ walk (planned plan p) (d - 1) (aAt plan i) n

@@ -47,14 +47,6 @@ module _ {plan p : List ℕ} {i n : ℕ} (v : Visits plan p i n) where
   unfolding nodeOf stepOf
   shift-is e = by-word 3 e
 
-  pub fix-is : kindAt plan i ≡ 8 → visit (planned plan p) i n ≡ Pass (aAt plan i) n
-  unfolding nodeOf stepOf
-  fix-is e = by-word 8 e
-
-  pub again-is : kindAt plan i ≡ 9 → visit (planned plan p) i n ≡ Pass (aAt plan i) n
-  unfolding nodeOf stepOf
-  again-is e = by-word 9 e
-
   pub except-is : {m : ℕ} → kindAt plan i ≡ 7 → m ≡ Except.split (bAt plan i) n → visit (planned plan p) i n ≡ Pass (aAt plan i) m
   unfolding nodeOf stepOf
   except-is e f = by-word 7 e ∙ rw (← f)

@@ -11,7 +11,6 @@ ghost use Rattle.walk.specs.Good.{Visits};
 use super::lay::NO_ROOM;
 use super::lay::TOO_DEEP;
 use super::step::dep_parts;
-use grammar::kinds::AGAIN;
 use grammar::kinds::CONS;
 use grammar::kinds::DEP;
 use grammar::kinds::EXCEPT;
@@ -64,14 +63,13 @@ pub fn tally(plan: &[u64], pool: &[u64], i: usize, n: u64, depth: usize, room: u
         let kind = plan[4 * node];
         let a = plan[4 * node + 1] as usize;
         let b = plan[4 * node + 2];
+        // FIX and AGAIN are the last kinds, and go on to their part without a look at the others.
+        if FIX <= kind {
+            node = a;
+            continue;
+        }
         match kind {
             SHIFT => {
-                node = a;
-            }
-            FIX => {
-                node = a;
-            }
-            AGAIN => {
                 node = a;
             }
             EXCEPT => {
