@@ -45,7 +45,7 @@ fn lift(k: u64, out: &mut [u64])
 }
 
 // The place after `used` cells, or the buffer's end.
-pub fn place(used: usize, long: usize) -> usize
+fn place(used: usize, long: usize) -> usize
     ensures { λ r. ⌜ r ≡ min used long ⌝ }
 {
     if used < long { used } else { long }
