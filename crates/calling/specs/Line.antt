@@ -9,7 +9,7 @@ use Prim.Native.Nat.{ℕ, _+_, _≤_, min}
 use lib.Dec.{eqb, leb}
 use lib.ListN.{length, getD}
 
--- "An input is at most 4 MiB, and its last byte is LF"
+-- calls.md: "at most 4,194,304 bytes"; "Input longer than the limit, or whose last line has no LF, prints only `unreadable`."
 abbrev pub mostBytes : ℕ
 mostBytes = 4194304
 
