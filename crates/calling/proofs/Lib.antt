@@ -1,4 +1,7 @@
 -- What the proofs of more than one call cite.
+mod Taking
 mod Fields
-mod Asking
 mod Lines
+mod Words
+mod Answers
+mod Input

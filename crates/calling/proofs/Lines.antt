@@ -1,7 +1,6 @@
--- The bytes of an input, and the words of a lent buffer, one by one.
---   readable-long, -none, -last           an input as a whole
---   Sizing, sizing-..                     the bytes before a space or LF
---   Kept, kept-none, kept-more, tells-..  words that have not changed
+-- The bytes of an input, one by one.
+--   readable-long, -none, -last    an input as a whole
+--   Sizing, sizing-..              the bytes before a space or LF
 -- Assumes nothing.
 use mathlib.Core.Path.{_≡_, refl, sym, ap, _∙_}
 use mathlib.Core.Bool.{Bool, true, false}
@@ -9,12 +8,11 @@ use mathlib.Core.List.{List, [], _∷_}
 use Prim.Native.Nat.{ℕ, suc, _+_, _-_, _≤_, _<_}
 use native.Mathlib.Numerals.{add-one}
 use native.Mathlib.Omega.{arith}
-use lib.Dec.{eqb, leb}
+use lib.Dec.{eqb}
 use lib.ListN.{length, getD, drop, drop-of-length-le}
 use lib.Seq.{drop-cons}
-use borrow.Author.Tests.{leb-true, leb-false, le-leb, lt-leb, ne-eqb}
+use borrow.Author.Tests.{le-leb, lt-leb, ne-eqb}
 use Rattle.calling.specs.Line.{mostBytes, readable, ends, wordSize}
-use Rattle.calling.specs.Buffer.{startWord, Tells}
 
 -- ---- an input as a whole
 pub readable-long : (text : List ℕ) → mostBytes < length text → false ≡ readable text
@@ -69,25 +67,3 @@ ends-lf b f e = rw e
 
 pub ends-not : (b : ℕ) → (b ≡ 32 → ⊥) → (b ≡ 10 → ⊥) → ends b ≡ false
 ends-not b f g = rw (ne-eqb b 32 f, ne-eqb b 10 g)
-
--- ---- words that have not changed
-pub record Kept (buffer : List ℕ) (from i : ℕ) : Type 0 where
-  pub le : from ≤ i
-  pub kept : (k : ℕ) → from ≤ k → k < i → getD buffer k 0 ≡ startWord k
-
-pub kept-none : (buffer : List ℕ) (from : ℕ) → Kept buffer from from
-kept-none buffer from = record { le = omega arith; kept = λ k l m. absurd (omega arith) }
-
-module _ {buffer : List ℕ} {from i w : ℕ} (h : Kept buffer from i) (e : w ≡ startWord i) where
-  pub kept-more : getD buffer i 0 ≡ w → Kept buffer from (i + 1)
-  kept-more q = record { le = omega (arith, h .le); kept = λ k l m. by k l m (leb i k) refl }
-    where
-      by : (k : ℕ) → from ≤ k → k < i + 1 → (b : Bool) → leb i k ≡ b → getD buffer k 0 ≡ startWord k
-      by k l m true u = let s : k ≡ i = omega (arith, leb-true i k u) in rw s (q ∙ e)
-      by k l m false u = h .kept k l (leb-false i k u)
-
-  pub tells-true : i < length buffer → (getD buffer i 0 ≡ w → ⊥) → Tells buffer from true
-  tells-true l f = record { kept = λ u. let z : _≡_ {A = ℕ} 0 1 = cc in absurd (omega arith); changed = λ _. (i, h .le, l, λ q. f (q ∙ sym e)) }
-
-pub tells-false : {buffer : List ℕ} {from i : ℕ} → Kept buffer from i → length buffer ≤ i → Tells buffer from false
-tells-false h l = record { kept = λ _ k m n. h .kept k m (omega arith); changed = λ u. let z : _≡_ {A = ℕ} 0 1 = cc in absurd (omega arith) }

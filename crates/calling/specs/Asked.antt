@@ -1,9 +1,17 @@
--- What a line asks of its call, as its fields are taken.
---   mostRow, mostRoom    how many words a row has at most, and how many a lent buffer
---   Counted              the fields before the row are all there, and behind them no more than a row
---   Lends                START and ROOM are there, behind them no more than a row, and the buffer has so much room
+-- What a line asks of its call, as its fields are taken: START, ROOM where a buffer is lent, and a row of words behind them.
+--   mostRow, mostRoom    calls.md: "ROOM is how many words the lent buffer has, at most 70,000; a row has at most 70,000 words."
+--   mostFields           how many words are lent for the fields
+--   fieldsOf             the fields behind a call's word: a space stands before the first
+--   takenBy, lentBy      how many fields there are, with the row's; and START and ROOM before that
+--   Takes, TakesLent     what taking them answers, and leaves in the words lent for them
 -- Assumes nothing.
-use Prim.Native.Nat.{ℕ, _+_, _≤_}
+use mathlib.Core.Path.{_≡_}
+use mathlib.Core.Bool.{cond, _&&_}
+use mathlib.Core.List.{List, [], _∷_}
+use Prim.Native.Nat.{ℕ, _+_}
+use lib.Dec.{leb}
+use lib.ListN.{length}
+use Rattle.lines.specs.Line.{Reading, numbers, unreadable, lineAt, within, stored}
 use Rattle.calling.specs.declared.asked.Taken.{Taken}
 use Rattle.calling.specs.declared.asked.Taken.the-variants.{Count, Unreadable}
 use Rattle.calling.specs.declared.asked.Lent.{Lent}
@@ -15,16 +23,28 @@ mostRow = 70000
 abbrev pub mostRoom : ℕ
 mostRoom = 70000
 
-abbrev pub CountedBy : ℕ → Taken → Type 0
-CountedBy before (Count count) = (before ≤ count) × (count ≤ before + mostRow)
-CountedBy before Unreadable = Unit {0}
+-- a row, with START and ROOM before it
+abbrev pub mostFields : ℕ
+mostFields = 70002
 
-pub record Counted (before : ℕ) (r : Taken) : Type 0 where
-  pub is : CountedBy before r
+abbrev pub fieldsOf : List ℕ → Reading
+fieldsOf rest = lineAt rest 1
 
-abbrev pub LendsBy : Lent → Type 0
-LendsBy (Of start room count) = (room ≤ mostRoom) × (2 ≤ count) × (count ≤ 2 + mostRow)
-LendsBy NotLent = Unit {0}
+-- the fields before the row are all there, and behind them no more than a row
+abbrev pub takenBy : ℕ → Reading → Taken
+takenBy before (numbers ns next) = cond (leb before (length ns) && leb (length ns) (before + mostRow)) (Count (length ns)) Unreadable
+takenBy before unreadable = Unreadable
 
-pub record Lends (r : Lent) : Type 0 where
-  pub is : LendsBy r
+abbrev pub lentBy : Reading → Lent
+lentBy (numbers [] next) = NotLent
+lentBy (numbers (i ∷ []) next) = NotLent
+lentBy (numbers (i ∷ room ∷ ns) next) = cond (leb (length ns) mostRow && leb room mostRoom) (Of i room (2 + length ns)) NotLent
+lentBy unreadable = NotLent
+
+pub record Takes (rest : List ℕ) (before : ℕ) (old last : List ℕ) (r : Taken) : Type 0 where
+  pub answers : r ≡ takenBy before (fieldsOf rest)
+  pub leaves : last ≡ stored old (within mostFields (fieldsOf rest))
+
+pub record TakesLent (rest old last : List ℕ) (r : Lent) : Type 0 where
+  pub answers : r ≡ lentBy (fieldsOf rest)
+  pub leaves : last ≡ stored old (within mostFields (fieldsOf rest))

@@ -1,11 +1,11 @@
 -- The lines of a text.
 --   readable   an input as a whole: not too long, and each line ended by LF
---   After      a place after a line: past the line's first byte, if there is one, and within the text
 --   wordSize   how many bytes stand before the first space or LF
+--   same       whether two texts are the same
 -- Assumes nothing.
 use mathlib.Core.Bool.{Bool, true, false, _&&_, _||_}
 use mathlib.Core.List.{List, [], _∷_}
-use Prim.Native.Nat.{ℕ, _+_, _≤_, min}
+use Prim.Native.Nat.{ℕ, _+_}
 use lib.Dec.{eqb, leb}
 use lib.ListN.{length, getD}
 
@@ -17,10 +17,6 @@ unfoldable pub readable : List ℕ → Bool
 readable [] = true
 readable (b ∷ bs) = leb (length (b ∷ bs)) mostBytes && eqb (getD (b ∷ bs) (length bs) 0) 10
 
-pub record After (text : List ℕ) (at r : ℕ) : Type 0 where
-  pub past : min (at + 1) (length text) ≤ r
-  pub within : r ≤ length text
-
 -- a space or LF
 abbrev pub ends : ℕ → Bool
 ends b = eqb b 32 || eqb b 10
@@ -28,3 +24,9 @@ ends b = eqb b 32 || eqb b 10
 unfoldable pub wordSize : List ℕ → ℕ
 wordSize [] = 0
 wordSize (b ∷ bs) = elim (ends b) [ true ↦ 0 | false ↦ 1 + wordSize bs ]
+
+unfoldable pub same : List ℕ → List ℕ → Bool
+same [] [] = true
+same [] (y ∷ ys) = false
+same (x ∷ xs) [] = false
+same (x ∷ xs) (y ∷ ys) = eqb x y && same xs ys

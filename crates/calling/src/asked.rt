@@ -1,12 +1,12 @@
 // What a line asks of its call: START, ROOM where a buffer is lent, and a row of words behind them.
 ghost use Prim.Native.Nat.{_≤_};
-ghost use Rattle.calling.specs.Asked.{Counted, Lends};
-use super::buffer::MOST_ROOM;
+ghost use Rattle.calling.specs.Asked.{Takes, TakesLent};
 use super::line::FIELDS_AT;
 use super::line::MOST_FIELDS;
 use super::line::MOST_ROW;
 use lines::line::Line;
 use lines::line::numbers_at;
+use pages::buffer::MOST_ROOM;
 
 // Where the row is among the fields: START alone stands before it, or START and ROOM.
 pub const AFTER_START: usize = 1;
@@ -28,7 +28,7 @@ pub enum Lent {
 // A row with `before` fields before it.
 pub fn take(rest: &[u8], before: usize, fields: &mut [u64; MOST_FIELDS]) -> Taken
     requires { ⌜ before ≤ 2 ⌝ }
-    ensures { λ r. ⌜ Counted before r ⌝ }
+    ensures { λ r. ⌜ Takes (now (rest .entry)) before (now (fields .entry)) (now (fields .exit)) r ⌝ }
 {
     let Line::Numbers(count, _) = numbers_at(rest, FIELDS_AT, fields) else {
         return Taken::Unreadable;
@@ -44,7 +44,7 @@ pub fn take(rest: &[u8], before: usize, fields: &mut [u64; MOST_FIELDS]) -> Take
 
 // START and ROOM before the row.
 pub fn take_lent(rest: &[u8], fields: &mut [u64; MOST_FIELDS]) -> Lent
-    ensures { λ r. ⌜ Lends r ⌝ }
+    ensures { λ r. ⌜ TakesLent (now (rest .entry)) (now (fields .entry)) (now (fields .exit)) r ⌝ }
 {
     let Taken::Count(count) = take(rest, AFTER_ROOM, fields) else {
         return Lent::Unreadable;

@@ -1,20 +1,24 @@
 // The calls by their words. Each has a file, whose `answer` is handed the rest of the line: a space
 // before each field, and LF.
+ghost use mathlib.Core.Path.{_≡_};
 ghost use Prim.Native.Nat.{_≤_};
 ghost use lib.ListN.{length};
-use super::answers::unreadable;
-use super::buffer::MOST_ROOM;
+ghost use Rattle.pages.specs.Page.{Puts};
+ghost use Rattle.calling.specs.Calls.{callOf, callText, lineText};
+ghost use Rattle.calling.specs.State.{knownOf};
 use super::check;
 use super::line::MOST_FIELDS;
 use super::line::same;
 use super::line::word_size;
-use super::page::PAGE_BYTES;
 use super::read;
 use super::reader;
 use super::row;
 use super::row::Way;
 use super::state::State;
 use super::write;
+use pages::answers::unreadable;
+use pages::buffer::MOST_ROOM;
+use pages::page::PAGE_BYTES;
 
 enum Call {
     Check,
@@ -26,7 +30,9 @@ enum Call {
     Unknown,
 }
 
-fn call_of(word: &[u8]) -> Call {
+fn call_of(word: &[u8]) -> Call
+    ensures { λ r. ⌜ r ≡ callOf (now (word .entry)) ⌝ }
+{
     if same(word, b"check") {
         return Call::Check;
     }
@@ -59,6 +65,7 @@ pub fn answer(
     page: &mut [u8; PAGE_BYTES],
 ) -> usize
     requires { ⌜ (state .table ≤ length (now table)) × (state .pool ≤ length (now pool)) ⌝ }
+    ensures { λ r. ⌜ Puts (lineText (knownOf state (now (table .entry)) (now (pool .entry))) (now (line .entry))) (now (page .entry)) (state .used) (now (page .exit)) r ⌝ }
 {
     let used = state.used;
     if !state.known {
@@ -89,7 +96,9 @@ fn answer_call(
     buffer: &mut [u64; MOST_ROOM],
     page: &mut [u8; PAGE_BYTES],
     used: usize,
-) -> usize {
+) -> usize
+    ensures { λ r. ⌜ Puts (callText (now (table .entry)) (now (pool .entry)) call (now (rest .entry))) (now (page .entry)) used (now (page .exit)) r ⌝ }
+{
     match call {
         Call::Check => check::answer(rest, table, pool, page, used),
         Call::Write => write::answer(rest, table, pool, fields, buffer, page, used),

@@ -1,12 +1,13 @@
 // `check`: whether the table is a grammar.
-use super::answers::refused_line;
-use super::answers::unreadable;
-use super::page::PAGE_BYTES;
-use super::page::put_text;
+ghost use Rattle.pages.specs.Page.{Puts};
+ghost use Rattle.calling.specs.Calls.{callText};
+ghost use Rattle.calling.specs.declared.calls.Call.the-variants.{Check};
+use super::line::same;
 use grammar::refusal::Verdict;
-
-// The length of what is left of a line without fields.
-const LF_ALONE: usize = 1;
+use pages::answers::refused_line;
+use pages::answers::unreadable;
+use pages::page::PAGE_BYTES;
+use pages::page::put_text;
 
 pub fn answer(
     rest: &[u8],
@@ -14,8 +15,10 @@ pub fn answer(
     pool: &[u64],
     page: &mut [u8; PAGE_BYTES],
     used: usize,
-) -> usize {
-    if rest.len() != LF_ALONE {
+) -> usize
+    ensures { λ r. ⌜ Puts (callText (now (table .entry)) (now (pool .entry)) Check (now (rest .entry))) (now (page .entry)) used (now (page .exit)) r ⌝ }
+{
+    if !same(rest, b"\n") {
         return unreadable(page, used);
     }
     match cases::check(table, pool) {

@@ -1,12 +1,9 @@
 // Every public call from a shell: the lines of an input, and what each call prints. Nothing is
 // decided here: words are lent, a call is made, and what came back is printed.
-mod answers;
 mod asked;
-mod buffer;
 mod calls;
 mod check;
 mod line;
-mod page;
 mod read;
 mod reader;
 mod row;
@@ -16,13 +13,16 @@ mod write;
 ghost use mathlib.Core.Path.{_≡_};
 ghost use Prim.Native.Nat.{_<_};
 ghost use lib.ListN.{length};
+ghost use Rattle.calling.specs.Input.{printed, Waits};
 ghost use Rattle.calling.specs.Line.{readable as isReadable};
-ghost use Rattle.calling.specs.State.{Within};
-use buffer::MOST_ROOM;
+ghost use Rattle.calling.specs.State.{Within, Turns};
 use libc::STDIN_FILENO;
 use line::MOST_FIELDS;
 use lines::ascii::LF;
-use page::PAGE_BYTES;
+use pages::answers;
+use pages::buffer::MOST_ROOM;
+use pages::page;
+use pages::page::PAGE_BYTES;
 use state::MOST_POOL_WORDS;
 use state::MOST_TABLE_WORDS;
 use state::State;
@@ -44,7 +44,7 @@ fn answer_all(text: &[u8]) {
     let mut state = state::without_table(0, 0);
     if !readable(text) {
         let waiting = answers::unreadable(&mut page, state.used);
-        page::flush(&page, waiting);
+        finish(text, &page, waiting);
         return;
     }
     let mut table = [0u64; MOST_TABLE_WORDS];
@@ -62,7 +62,15 @@ fn answer_all(text: &[u8]) {
             &mut page,
         );
     }
-    page::flush(&page, state.used);
+    finish(text, &page, state.used);
+}
+
+// Writes out what waits. What is written is in no contract, so the caller has to show that it is what
+// the text prints.
+fn finish(text: &[u8], page: &[u8; PAGE_BYTES], used: usize)
+    requires { ⌜ Waits (printed (now text)) (now page) used ⌝ }
+{
+    page::flush(page, used);
 }
 
 // An input of no bytes has no line that could lack its LF.
@@ -90,7 +98,7 @@ fn answer_line(
     page: &mut [u8; PAGE_BYTES],
 ) -> State
     requires { ⌜ Within (now text) state × (state .at < length (now text)) ⌝ }
-    ensures { λ r. ⌜ Within (now (text .entry)) r × (state .at < r .at) ⌝ }
+    ensures { λ r. ⌜ Turns (now (text .entry)) state (now (table .entry)) (now (pool .entry)) (now (page .entry)) (now (table .exit)) (now (pool .exit)) (now (page .exit)) r ⌝ }
 {
     let at = state.at;
     let next = line::after(text, at);

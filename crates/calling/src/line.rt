@@ -2,7 +2,8 @@
 ghost use mathlib.Core.Path.{_≡_};
 ghost use Prim.Native.Nat.{_≤_};
 ghost use lib.ListN.{length};
-ghost use Rattle.calling.specs.Line.{After, wordSize};
+ghost use Rattle.calling.specs.Input.{after as afterOf};
+ghost use Rattle.calling.specs.Line.{wordSize, same as isSame};
 use lines::ascii::LF;
 use lines::ascii::SPACE;
 
@@ -18,7 +19,7 @@ pub const MOST_FIELDS: usize = MOST_ROW + 2;
 // The place after the line that starts at `at`.
 pub fn after(text: &[u8], at: usize) -> usize
     requires { ⌜ at ≤ length (now text) ⌝ }
-    ensures { λ r. ⌜ After (now (text .entry)) at r ⌝ }
+    ensures { λ r. ⌜ r ≡ afterOf (now (text .entry)) at ⌝ }
 {
     let mut i = at;
     while i < text.len() {
@@ -47,7 +48,9 @@ pub fn word_size(line: &[u8]) -> usize
     i
 }
 
-pub fn same(a: &[u8], b: &[u8]) -> bool {
+pub fn same(a: &[u8], b: &[u8]) -> bool
+    ensures { λ r. ⌜ r ≡ isSame (now (a .entry)) (now (b .entry)) ⌝ }
+{
     if a.len() != b.len() {
         return false;
     }

@@ -1,16 +1,18 @@
 // `reader START CELL CELL ..`: the cases of a row, asked for one at a time.
-ghost use Prim.Native.Nat.{_≤_};
-ghost use lib.ListN.{length};
-use super::answers::number;
-use super::answers::refused_line;
-use super::answers::unreadable;
+ghost use Prim.Native.Nat.{_-_, _≤_};
+ghost use lib.ListN.{length, take, drop};
+ghost use Rattle.pages.specs.Page.{Puts};
+ghost use Rattle.calling.specs.Calls.{asksText, callText};
+ghost use Rattle.calling.specs.declared.calls.Call.the-variants.{Reader};
 use super::asked::AFTER_START;
 use super::asked::Taken;
 use super::asked::take;
 use super::line::MOST_FIELDS;
-use super::page::PAGE_BYTES;
-use super::page::put_number;
-use super::page::put_text;
+use pages::answers::item_line;
+use pages::answers::refused_line;
+use pages::answers::unreadable;
+use pages::page::PAGE_BYTES;
+use pages::page::put_text;
 use rows::Next;
 
 pub fn answer(
@@ -20,7 +22,9 @@ pub fn answer(
     fields: &mut [u64; MOST_FIELDS],
     page: &mut [u8; PAGE_BYTES],
     used: usize,
-) -> usize {
+) -> usize
+    ensures { λ r. ⌜ Puts (callText (now (table .entry)) (now (pool .entry)) Reader (now (rest .entry))) (now (page .entry)) used (now (page .exit)) r ⌝ }
+{
     let Taken::Count(count) = take(rest, AFTER_START, fields) else {
         return unreadable(page, used);
     };
@@ -39,6 +43,7 @@ fn call(
     used: usize,
 ) -> usize
     requires { ⌜ (1 ≤ count) × (count ≤ length (now fields)) ⌝ }
+    ensures { λ r. ⌜ Puts (asksText (now (table .entry)) (now (pool .entry)) start (take (count - 1) (drop 1 (now (fields .entry))))) (now (page .entry)) used (now (page .exit)) r ⌝ }
 {
     ask_on(table, pool, start, &fields[AFTER_START..count], page, used)
 }
@@ -51,7 +56,9 @@ fn ask_on(
     row: &[u64],
     page: &mut [u8; PAGE_BYTES],
     used: usize,
-) -> usize {
+) -> usize
+    ensures { λ r. ⌜ Puts (asksText (now (table .entry)) (now (pool .entry)) start (now (row .entry))) (now (page .entry)) used (now (page .exit)) r ⌝ }
+{
     let mut waiting = used;
     let mut at: usize = 0;
     loop {
@@ -70,11 +77,4 @@ fn ask_on(
             }
         }
     }
-}
-
-fn item_line(page: &mut [u8; PAGE_BYTES], used: usize, found: u64, cells: usize) -> usize {
-    let said = number(page, used, found);
-    let parted = put_text(page, said, b", ");
-    let counted = put_number(page, parted, cells as u64);
-    put_text(page, counted, b" cells\n")
 }

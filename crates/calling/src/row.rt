@@ -1,21 +1,21 @@
 // `write-row START ROOM NUMBER ..`: the cells of numbers, one case after another; and
 // `read-row START ROOM CELL ..`: the numbers of a row of cases, from its cells.
-ghost use Prim.Native.Nat.{_≤_};
-ghost use lib.ListN.{length};
-use super::answers::refused;
-use super::answers::unreadable;
+ghost use Prim.Native.Nat.{_-_, _≤_};
+ghost use lib.ListN.{length, take, drop};
+ghost use Rattle.pages.specs.Page.{Puts};
+ghost use Rattle.calling.specs.Asked.{fieldsOf};
+ghost use Rattle.calling.specs.Calls.{withBuffer, wayText};
+ghost use Rattle.calling.specs.declared.row.Way.the-variants.{Write as Writes, Read as Reads};
 use super::asked::AFTER_ROOM;
 use super::asked::Lent;
 use super::asked::take_lent;
-use super::buffer::MOST_ROOM;
-use super::buffer::end_line;
-use super::buffer::fill;
-use super::buffer::listed_line;
 use super::line::MOST_FIELDS;
-use super::page::PAGE_BYTES;
-use super::page::put_number;
-use super::page::put_text;
-use grammar::refusal::Refusal;
+use pages::answers::done_line;
+use pages::answers::refused_at_item;
+use pages::answers::unreadable;
+use pages::buffer::MOST_ROOM;
+use pages::buffer::fill;
+use pages::page::PAGE_BYTES;
 use rows::Row;
 
 pub enum Way {
@@ -32,7 +32,9 @@ pub fn answer(
     buffer: &mut [u64; MOST_ROOM],
     page: &mut [u8; PAGE_BYTES],
     used: usize,
-) -> usize {
+) -> usize
+    ensures { λ r. ⌜ Puts (withBuffer (wayText way (now (table .entry)) (now (pool .entry))) (fieldsOf (now (rest .entry)))) (now (page .entry)) used (now (page .exit)) r ⌝ }
+{
     let Lent::Of(start, room, count) = take_lent(rest, fields) else {
         return unreadable(page, used);
     };
@@ -64,6 +66,7 @@ fn lend(
     used: usize,
 ) -> usize
     requires { ⌜ (2 ≤ count) × (count ≤ length (now fields)) × (room ≤ length (now buffer)) ⌝ }
+    ensures { λ r. ⌜ Puts (wayText way (now (table .entry)) (now (pool .entry)) start room (take (count - 2) (drop 2 (now (fields .entry))))) (now (page .entry)) used (now (page .exit)) r ⌝ }
 {
     call(
         way,
@@ -86,8 +89,9 @@ fn call(
     lent: &mut [u64],
     page: &mut [u8; PAGE_BYTES],
     used: usize,
-) -> usize {
-    fill(lent);
+) -> usize
+    ensures { λ r. ⌜ Puts (wayText way (now (table .entry)) (now (pool .entry)) start (length (now (lent .entry))) (now (row .entry))) (now (page .entry)) used (now (page .exit)) r ⌝ }
+{
     match way {
         Way::Write => write(table, pool, start, row, lent, page, used),
         Way::Read => read(table, pool, start, row, lent, page, used),
@@ -102,7 +106,10 @@ fn write(
     cells: &mut [u64],
     page: &mut [u8; PAGE_BYTES],
     used: usize,
-) -> usize {
+) -> usize
+    ensures { λ r. ⌜ Puts (wayText Writes (now (table .entry)) (now (pool .entry)) start (length (now (cells .entry))) (now (numbers .entry))) (now (page .entry)) used (now (page .exit)) r ⌝ }
+{
+    fill(cells);
     match rows::write_row(table, pool, start, numbers, cells) {
         Row::Done(items, count) => done_line(page, used, items, count, cells, count),
         Row::Refused(refusal, node, item) => {
@@ -119,42 +126,14 @@ fn read(
     numbers: &mut [u64],
     page: &mut [u8; PAGE_BYTES],
     used: usize,
-) -> usize {
+) -> usize
+    ensures { λ r. ⌜ Puts (wayText Reads (now (table .entry)) (now (pool .entry)) start (length (now (numbers .entry))) (now (cells .entry))) (now (page .entry)) used (now (page .exit)) r ⌝ }
+{
+    fill(numbers);
     match rows::read_row(table, pool, start, cells, numbers) {
         Row::Done(items, count) => done_line(page, used, items, count, numbers, items),
         Row::Refused(refusal, node, item) => {
             refused_at_item(page, used, refusal, node, item, numbers)
         }
     }
-}
-
-// The call used so many items and cells, and wrote the first `written` words of the buffer.
-fn done_line(
-    page: &mut [u8; PAGE_BYTES],
-    used: usize,
-    items: usize,
-    cells: usize,
-    buffer: &[u64],
-    written: usize,
-) -> usize
-    requires { ⌜ written ≤ length (now buffer) ⌝ }
-{
-    let counted = put_number(page, used, items as u64);
-    let named = put_text(page, counted, b" items, ");
-    listed_line(page, named, cells, buffer, written)
-}
-
-// A refused call was to write no word of the buffer.
-fn refused_at_item(
-    page: &mut [u8; PAGE_BYTES],
-    used: usize,
-    refusal: Refusal,
-    node: u64,
-    item: usize,
-    buffer: &[u64],
-) -> usize {
-    let said = refused(page, used, refusal, node);
-    let named = put_text(page, said, b" item ");
-    let placed = put_number(page, named, item as u64);
-    end_line(page, placed, buffer, 0)
 }

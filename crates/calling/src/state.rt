@@ -1,13 +1,14 @@
 // How far an input is answered, and the table that its calls are about.
+ghost use mathlib.Core.Bool.{false};
 ghost use mathlib.Core.Path.{_≡_};
 ghost use Prim.Native.Nat.{_≤_};
 ghost use lib.ListN.{length};
-ghost use Rattle.calling.specs.State.{Within};
-use super::answers::unreadable;
+ghost use Rattle.calling.specs.State.{Tables};
 use super::line::after;
-use super::page::PAGE_BYTES;
 use lines::line::Line;
 use lines::line::numbers_at;
+use pages::answers::unreadable;
+use pages::page::PAGE_BYTES;
 
 // More than the check accepts, so that its own limits can be tried from outside.
 pub const MOST_TABLE_WORDS: usize = 1024;
@@ -25,7 +26,7 @@ pub struct State {
 }
 
 pub fn without_table(at: usize, used: usize) -> State
-    ensures { λ r. ⌜ (r .at ≡ at) × (r .table ≡ 0) × (r .pool ≡ 0) ⌝ }
+    ensures { λ r. ⌜ (r .at ≡ at) × (r .used ≡ used) × (r .known ≡ false) × (r .table ≡ 0) × (r .pool ≡ 0) ⌝ }
 {
     State {
         at,
@@ -46,7 +47,7 @@ pub fn take_table(
     page: &mut [u8; PAGE_BYTES],
 ) -> State
     requires { ⌜ at ≤ length (now text) ⌝ }
-    ensures { λ r. ⌜ Within (now (text .entry)) r × (at ≤ r .at) ⌝ }
+    ensures { λ r. ⌜ Tables (now (text .entry)) at (now (page .entry)) used (now (table .exit)) (now (pool .exit)) (now (page .exit)) r ⌝ }
 {
     let middle = after(text, at);
     let next = after(text, middle);

@@ -1,17 +1,20 @@
 // `write START ROOM NUMBER`: the cells of a number.
 ghost use Prim.Native.Nat.{_≤_};
 ghost use lib.ListN.{length};
-use super::answers::refused;
-use super::answers::unreadable;
+ghost use Rattle.pages.specs.Page.{Puts};
+ghost use Rattle.calling.specs.Calls.{caseText, callText};
+ghost use Rattle.calling.specs.declared.calls.Call.the-variants.{Write};
 use super::asked::Lent;
 use super::asked::take_lent;
-use super::buffer::MOST_ROOM;
-use super::buffer::end_line;
-use super::buffer::fill;
-use super::buffer::listed_line;
 use super::line::MOST_FIELDS;
-use super::page::PAGE_BYTES;
 use cases::Written;
+use pages::answers::end_line;
+use pages::answers::listed_line;
+use pages::answers::refused;
+use pages::answers::unreadable;
+use pages::buffer::MOST_ROOM;
+use pages::buffer::fill;
+use pages::page::PAGE_BYTES;
 
 // START, ROOM and NUMBER.
 const FIELDS: usize = 3;
@@ -24,7 +27,9 @@ pub fn answer(
     buffer: &mut [u64; MOST_ROOM],
     page: &mut [u8; PAGE_BYTES],
     used: usize,
-) -> usize {
+) -> usize
+    ensures { λ r. ⌜ Puts (callText (now (table .entry)) (now (pool .entry)) Write (now (rest .entry))) (now (page .entry)) used (now (page .exit)) r ⌝ }
+{
     let Lent::Of(start, room, count) = take_lent(rest, fields) else {
         return unreadable(page, used);
     };
@@ -47,6 +52,7 @@ fn lend(
     used: usize,
 ) -> usize
     requires { ⌜ room ≤ length (now buffer) ⌝ }
+    ensures { λ r. ⌜ Puts (caseText (now (table .entry)) (now (pool .entry)) start room number) (now (page .entry)) used (now (page .exit)) r ⌝ }
 {
     call(table, pool, start, number, &mut buffer[..room], page, used)
 }
@@ -59,7 +65,9 @@ fn call(
     cells: &mut [u64],
     page: &mut [u8; PAGE_BYTES],
     used: usize,
-) -> usize {
+) -> usize
+    ensures { λ r. ⌜ Puts (caseText (now (table .entry)) (now (pool .entry)) start (length (now (cells .entry))) number) (now (page .entry)) used (now (page .exit)) r ⌝ }
+{
     fill(cells);
     match cases::write(table, pool, start, number, cells) {
         Written::Done(count) => listed_line(page, used, count, cells, count),

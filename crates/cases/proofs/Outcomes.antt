@@ -1,5 +1,6 @@
 -- What is known by the answer of `write`.
 --   written-fits    the answer Done: no more cells than words were lent
+--   written-size    the count is that of the case's cells
 --   written-cells   the words that it counts are the case's cells
 --   same-cells      so they depend on the table, the pool, the start and the number alone, not on what the buffer held
 -- Assumes nothing.
@@ -57,6 +58,9 @@ module _ {t p : List ℕ} {i n : ℕ} {old last : List ℕ} {r : Written} (k : W
 
   pub written-fits : count ≤ length old
   written-fits = tells .0
+
+  pub written-size : count ≡ length (cells (walk (grammarOf t p) depth i n))
+  written-size = tells .1
 
   pub written-cells : take count last ≡ cells (walk (grammarOf t p) depth i n)
   written-cells =

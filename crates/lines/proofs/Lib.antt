@@ -2,5 +2,6 @@
 pub mod Tests
 pub mod Fronts
 pub mod Decimals
+pub mod Sizes
 pub mod Laws
 mod Worked

@@ -1,22 +1,16 @@
 -- The lines that are printed. 01: "Every printed line ends in LF."
---   bytes             the bytes of an ASCII text
 --   unreadableText    "Anything else prints only `unreadable`."
 --   refusedText       "`refused N at K`: refusal, node"
 --   caseText          "`case I: ` and its cells with single spaces"
 --   caseRefusedText   "or `case I refused N`; I is the number asked for"
 -- Assumes nothing.
-use mathlib.Core.List.{List, [], _∷_, _++_}
+use mathlib.Core.List.{List, _++_}
 use Prim.Native.Nat.{ℕ}
-use Prim.Native.Char.{code}
-use Prim.Native.String.{String}
 use Rattle.grammar.specs.Refusals.{numberOf}
 use Rattle.grammar.specs.declared.refusal.Refusal.{Refusal}
+use Rattle.lines.specs.Ascii.{bytes}
 use Rattle.lines.specs.Decimal.{decimal}
 use Rattle.lines.specs.Line.{lineText}
-
-abbrev pub bytes : String → List ℕ
-bytes String.[] = []
-bytes (String._∷_ c s) = code c ∷ bytes s
 
 unfoldable pub unreadableText : List ℕ
 unreadableText = bytes "unreadable\n"

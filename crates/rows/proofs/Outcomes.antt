@@ -1,7 +1,7 @@
 -- What is known by an answer, for every input.
---   row-fits     a row that is done: no more cells than words were lent
---   got-fits     a row that is read: no more numbers than words were lent
---   next-moves   an item of the reader: it has a cell, and ends within the row
+--   row-size, row-fits, row-cells     a row that is done: its cells are counted, are no more than words were lent, and are those written
+--   got-size, got-fits, got-numbers   a row that is read: the same of its numbers
+--   next-moves                        an item of the reader: it has a cell, and ends within the row
 -- Assumes nothing.
 use mathlib.Core.Path.{_≡_, refl, sym, ap, _∙_}
 use mathlib.Core.Bool.{Bool, true, false}
@@ -9,7 +9,7 @@ use mathlib.Core.List.{List, [], _∷_}
 use Prim.Native.Nat.{ℕ, _-_, _≤_, _<_}
 use native.Mathlib.Omega.{arith}
 use lib.Dec.{ltb}
-use lib.ListN.{length, drop, length-append, length-drop}
+use lib.ListN.{length, take, drop, length-append, length-drop}
 use borrow.Author.Tests.{ltb-true}
 use Rattle.numbers.specs.Pick.{pick}
 use Rattle.grammar.specs.Table.{nodes}
@@ -18,11 +18,13 @@ use Rattle.grammar.specs.declared.refusal.Refusal.the-variants.{NoSuchStart}
 use Rattle.grammar.specs.declared.refusal.Verdict.{Verdict}
 use Rattle.grammar.specs.declared.refusal.Verdict.the-variants.{Accepted, Refused as Refuses}
 use Rattle.walk.specs.Grammar.{grammarOf}
+use Rattle.walk.specs.Filled.{over}
+use Rattle.walk.proofs.Fills.{over-front}
 use Rattle.walk.proofs.Strides.{case-some}
 use Rattle.checked.specs.Item.{Front, number, refused, front}
-use Rattle.rows.specs.Row.{judged}
-use Rattle.rows.specs.WriteRow.{inTurn, writesRowPlanned, writesRow, WroteRow}
-use Rattle.rows.specs.ReadRow.{Gathered, all, stopped, gather, answered, readsRowPlanned, readsRow, GotRow}
+use Rattle.rows.specs.Row.{judged, leaves}
+use Rattle.rows.specs.WriteRow.{inTurn, rowOf, writesRowPlanned, writesRow, WroteRow}
+use Rattle.rows.specs.ReadRow.{Gathered, all, stopped, gather, answered, gotten, readsRowPlanned, readsRow, GotRow}
 use Rattle.rows.specs.Reader.{handed, next, nextPlanned, nextOf}
 use Rattle.rows.specs.Reader as Readers
 use Rattle.rows.specs.declared.answer.Row.{Row}
@@ -40,23 +42,49 @@ started-done : (b : Bool) (r : Row) {m c : ℕ} → pick b r (Refused NoSuchStar
 started-done true r e = e
 started-done false r e = let z : _≡_ {A = ℕ} 0 1 = cc in absurd (omega arith)
 
-answered-fits : (used room : ℕ) (x : Gathered) → ((ns : List ℕ) → x ≡ all ns → length ns ≤ room) → {m c : ℕ} → answered used x ≡ Done m c → m ≤ room
-answered-fits used room (all ns) f {m} e = let s : length ns ≡ m = cc in omega (arith, f ns refl)
-answered-fits used room (stopped r k) f e = let z : _≡_ {A = ℕ} 0 1 = cc in absurd (omega arith)
+answered-size : (used room : ℕ) (x : Gathered) → ((ns : List ℕ) → x ≡ all ns → length ns ≤ room) → {m c : ℕ} → answered used x ≡ Done m c → (m ≡ length (gotten x)) × (m ≤ room)
+answered-size used room (all ns) f {m} e = let s : length ns ≡ m = cc in (sym s, omega (arith, f ns refl))
+answered-size used room (stopped r k) f e = let z : _≡_ {A = ℕ} 0 1 = cc in absurd (omega arith)
 
 module _ {t p : List ℕ} {i : ℕ} where
-  pub row-fits : {ns old last : List ℕ} {r : Row} → WroteRow t p i ns old last r → {m c : ℕ} → r ≡ Done m c → c ≤ length old
-  unfolding writesRow writesRowPlanned
-  row-fits {ns} {old} h e =
-      done-row (grammarOf t p) i (length old) ns
-      (started-done (ltb i (nodes t)) (inTurn (grammarOf t p) i (length old) ns) (judged-done (verdict t p) (writesRowPlanned t p i (length old) ns) (sym (h .is) ∙ e))) .2
+  module _ {ns old last : List ℕ} {r : Row} (h : WroteRow t p i ns old last r) {m c : ℕ} (e : r ≡ Done m c) where
+    written : (m ≡ length ns) × (c ≡ length (rowOf (grammarOf t p) i ns)) × (c ≤ length old)
+    unfolding writesRow writesRowPlanned
+    written =
+        done-row (grammarOf t p) i (length old) ns
+        (started-done (ltb i (nodes t)) (inTurn (grammarOf t p) i (length old) ns) (judged-done (verdict t p) (writesRowPlanned t p i (length old) ns) (sym (h .is) ∙ e)))
 
-  pub got-fits : {cs old last : List ℕ} {r : Row} → GotRow t p i cs old last r → {m c : ℕ} → r ≡ Done m c → m ≤ length old
-  unfolding readsRow readsRowPlanned
-  got-fits {cs} {old} h e =
-      let x = gather (grammarOf t p) i (length old) cs in
-      answered-fits (length cs) (length old) x (λ ns f. gathered-fits (grammarOf t p) i (length old) cs f)
-      (started-done (ltb i (nodes t)) (answered (length cs) x) (judged-done (verdict t p) (readsRowPlanned t p i (length old) cs) (sym (h .is) ∙ e)))
+    pub row-size : c ≡ length (rowOf (grammarOf t p) i ns)
+    row-size = written .1
+
+    pub row-fits : c ≤ length old
+    row-fits = written .2
+
+    pub row-cells : take c last ≡ rowOf (grammarOf t p) i ns
+    row-cells =
+        let ws = rowOf (grammarOf t p) i ns in
+        let holds : last ≡ over ws old = h .holds ∙ ap (λ (w : Row). leaves w ws old) e in
+        rw (holds, row-size) (over-front ws old (omega (arith, row-size, row-fits)))
+
+  module _ {cs old last : List ℕ} {r : Row} (h : GotRow t p i cs old last r) {m c : ℕ} (e : r ≡ Done m c) where
+    read : (m ≡ length (gotten (gather (grammarOf t p) i (length old) cs))) × (m ≤ length old)
+    unfolding readsRow readsRowPlanned
+    read =
+        let x = gather (grammarOf t p) i (length old) cs in
+        answered-size (length cs) (length old) x (λ ns f. gathered-fits (grammarOf t p) i (length old) cs f)
+        (started-done (ltb i (nodes t)) (answered (length cs) x) (judged-done (verdict t p) (readsRowPlanned t p i (length old) cs) (sym (h .is) ∙ e)))
+
+    pub got-size : m ≡ length (gotten (gather (grammarOf t p) i (length old) cs))
+    got-size = read .0
+
+    pub got-fits : m ≤ length old
+    got-fits = read .1
+
+    pub got-numbers : take m last ≡ gotten (gather (grammarOf t p) i (length old) cs)
+    got-numbers =
+        let ws = gotten (gather (grammarOf t p) i (length old) cs) in
+        let holds : last ≡ over ws old = h .holds ∙ ap (λ (w : Row). leaves w ws old) e in
+        rw (holds, got-size) (over-front ws old (omega (arith, got-size, got-fits)))
 
 -- ---- the reader
 module _ (t p : List ℕ) (i n k : ℕ) where

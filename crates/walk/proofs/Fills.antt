@@ -39,6 +39,13 @@ over-front [] old l = refl
 over-front (c ∷ cs) [] l = absurd (not-suc-le-zero l)
 over-front (c ∷ cs) (o ∷ old) l = ap (λ (xs : List ℕ). c ∷ xs) (over-front cs old (le-of-suc-le-suc l))
 
+-- what lies behind it keeps its words
+pub over-back : (cs old : List ℕ) → drop (length cs) (over cs old) ≡ drop (length cs) old
+unfolding over
+over-back [] old = refl
+over-back (c ∷ cs) [] = refl
+over-back (c ∷ cs) (o ∷ old) = over-back cs old
+
 -- the same, by the lengths
 pub over-is : (new old : List ℕ) → over new old ≡ take (length old) new ++ drop (length new) old
 unfolding over

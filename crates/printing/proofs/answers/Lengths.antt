@@ -13,12 +13,13 @@ use Rattle.grammar.specs.declared.refusal.Refusal.{Refusal}
 use Rattle.grammar.specs.declared.refusal.Refusal.the-variants.{Length, Kind, SpareWord, Reference, Range, Repeat, UnsuitedPart, TooLarge, Unguarded, ExceptOnCycle, NoSuchStart, NoSuchNumber, TooDeep, NoRoom, NotACase, NumberTooLarge}
 use Rattle.walk.specs.Filled.{Filled}
 use Rattle.walk.proofs.Fills.{over-is}
+use Rattle.lines.specs.Ascii.{bytes}
 use Rattle.lines.specs.Decimal.{decimal}
 use Rattle.lines.specs.Line.{lineText}
 use Rattle.lines.proofs.line.Laws.{AllWords}
-use Rattle.printing.specs.Texts.{bytes, refusedText, caseText, caseRefusedText}
+use Rattle.printing.specs.Texts.{refusedText, caseText, caseRefusedText}
 use Rattle.printing.specs.Printed.{OnPage}
-use Rattle.printing.proofs.texts.Sizes.{decimal-size}
+use Rattle.lines.proofs.Sizes.{decimal-size}
 
 number-small : (r : Refusal) → numberOf r < 2 ^ 64
 unfolding numberOf

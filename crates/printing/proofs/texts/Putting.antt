@@ -1,37 +1,17 @@
 -- What the functions that put texts have put.
---   digits-front     the digits of a number, at the front of an array of 20
---   digits-none      which has room for them
 --   Lining, line-start, line-more, line-end    a line of numbers, one by one
 -- Assumes nothing.
 use mathlib.Core.Path.{_≡_, refl, sym, _∙_}
 use mathlib.Core.List.{List, [], _∷_, _++_, append-assoc}
-use Prim.Native.Nat.{ℕ, suc, _+_, _-_, _^_, _≤_, _<_}
+use Prim.Native.Nat.{ℕ, suc, _+_, _-_, _<_}
 use native.Mathlib.Numerals.{add-one}
 use native.Mathlib.Omega.{arith}
 use lib.ListN.{length, getD, take, drop, drop-of-length-le}
-use lib.Seq.{drop-cons, take-append-seam}
+use lib.Seq.{drop-cons}
 use Rattle.walk.specs.Filled.{Filled}
 use Rattle.walk.proofs.Fills.{nothing, then}
 use Rattle.lines.specs.Decimal.{decimal}
 use Rattle.lines.specs.Line.{lineText}
-use Rattle.lines.specs.Put.{PutFront}
-use Rattle.lines.specs.declared.put.Put.{Put}
-use Rattle.lines.specs.declared.put.Put.the-variants.{Bytes, NoRoom}
-use Rattle.lines.proofs.put.Outcomes.{put-bytes-known, put-none-known}
-use Rattle.printing.proofs.texts.Sizes.{decimal-size}
-
--- ---- the digits of a number
-module _ (n : ℕ) {old last : List ℕ} {r : Put} (k : PutFront (decimal n) old last r) where
-  pub digits-front : {size : ℕ} → r ≡ Bytes size → take size last ≡ decimal n
-  digits-front {size} e =
-      let (s, room, holds) = put-bytes-known k e in
-      rw (s, holds) (rw s (take-append-seam (decimal n) (drop (length (decimal n)) old)))
-
-  pub digits-fit : {size : ℕ} → r ≡ Bytes size → size ≤ length old
-  digits-fit e = put-bytes-known k e .1
-
-  pub digits-none : r ≡ NoRoom → n < 2 ^ 64 → 20 ≤ length old → ⊥
-  digits-none e h l = omega (arith, put-none-known k e .0, decimal-size n h)
 
 -- ---- a line of numbers: what is put and the text of the rest are the whole
 pub record Lining (ns old now : List ℕ) (used i : ℕ) : Type 0 where

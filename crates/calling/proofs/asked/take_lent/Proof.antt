@@ -1,7 +1,8 @@
 -- `calling::asked::take_lent` lends no more than the buffer has.
 -- Assumes nothing.
 use borrow.Author.Needs.{needs}
-use Rattle.calling.proofs.Fields.{counted}
+use mathlib.Core.Path.{refl}
+use Rattle.calling.proofs.Taking.{lent-none, lent-over, lent-all}
 use Rattle.calling.proofs.asked.take_lent.Statement.{statement}
 use Rattle.calling.proofs.asked.take_lent.Tie as tie
 
@@ -12,8 +13,8 @@ take-lent-spec =
     (λ c κs. search needs)
     (λ c. search needs)
     (λ c. search needs)
+    (λ c. lent-none (c .before .before .take .ensures) (c .enum-told .given .1))
     (λ c. search needs)
     (λ c. search needs)
-    (λ c. search needs)
-    (λ c. search needs)
-    (λ c. let (lo, hi) = counted (c .before .before .before .before .before .before .take .ensures) (c .before .before .before .before .count .given .1) in record { is = (c .if1 .left, lo, hi) }))
+    (λ c. lent-over (c .before .before .before .before .before .before .take .ensures) (c .before .before .before .before .count .given .1) refl (c .if1 .taken))
+    (λ c. lent-all (c .before .before .before .before .before .before .take .ensures) (c .before .before .before .before .count .given .1) refl refl (c .if1 .left)))

@@ -3,6 +3,7 @@
 use borrow.Author.Needs.{needs}
 use native.Mathlib.Omega.{arith}
 use lib.ListN.{length-take}
+use Rattle.calling.proofs.Answers.{told, line-unknown, line-call}
 use Rattle.calling.proofs.calls.answer.Statement.{statement}
 use Rattle.calling.proofs.calls.answer.Tie as tie
 
@@ -11,7 +12,7 @@ answer-spec =
     tie.close
     (tie.spec
     (λ c κs. search needs)
-    (λ c. search needs)
+    (λ c. told (line-unknown _ _ _ _ (c .before .before .if1 .taken)) (c .unreadable .ensures))
     (λ c κs. search needs)
     (λ c. simp length-take (omega arith))
     (λ c κs. search needs)
@@ -21,4 +22,4 @@ answer-spec =
     (λ c. simp length-take (omega arith))
     (λ c. simp length-take (omega arith))
     (λ c κs. search needs)
-    (λ c. search needs))
+    (λ c. told (line-call _ _ _ _ (c .before .before .before .before .before .before .before .before .before .before .if1 .left) (c .before .before .before .before .before .before .before .before .before .word-size .ensures .0) (c .before .before .before .before .before .before .before .call-of .ensures)) (c .answer-call .ensures)))

@@ -1,12 +1,17 @@
 -- `calling::reader::answer` hands on the fields that are there.
 -- Assumes nothing.
 use borrow.Author.Needs.{needs}
-use Rattle.calling.proofs.Fields.{counted}
+use mathlib.Core.Path.{refl}
+use Rattle.calling.specs.Calls.{callText}
 use native.Mathlib.Omega.{arith}
+use Rattle.calling.proofs.Taking.{taking}
+use Rattle.calling.proofs.Fields.{cells-none, cells-text}
+use Rattle.calling.proofs.Answers.{told}
 use Rattle.calling.proofs.reader.answer.Statement.{statement}
 use Rattle.calling.proofs.reader.answer.Tie as tie
 
 pub answer-spec : {M : Type 1} → statement M
+unfolding callText
 answer-spec =
     tie.close
     (tie.spec
@@ -14,7 +19,7 @@ answer-spec =
     (λ c. search needs)
     (λ c. search needs)
     (λ c κs. search needs)
+    (λ c. told (cells-none _ (c .before .before .before .before .take .ensures) (c .before .before .enum-told .given .1)) (c .unreadable .ensures))
     (λ c. search needs)
-    (λ c. search needs)
-    (λ c κs. let (lo, hi) = counted (c .before .before .before .before .before .before .before .take .ensures) (c .before .before .before .before .before .count .given .1) in (lo, omega arith))
-    (λ c. search needs))
+    (λ c κs. let t = taking (omega arith) (c .before .before .before .before .before .before .before .take .ensures) (c .before .before .before .before .before .count .given .1) in (omega (arith, t .lo, t .size), omega (arith, t .hi, t .size)))
+    (λ c. told (cells-text _ (c .before .before .before .before .before .before .before .before .take .ensures) (c .before .before .before .before .before .before .count .given .1) refl) (c .call .ensures)))

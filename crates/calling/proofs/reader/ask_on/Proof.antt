@@ -3,12 +3,12 @@
 use borrow.Author.Needs.{needs}
 use Prim.Native.Nat.{_-_}
 use lib.ListN.{length}
-use Rattle.calling.proofs.Asking.{nearer}
+use Rattle.calling.proofs.Answers.{Asking, ask-none, nearer, ask-more, ask-end, ask-refused}
 use Rattle.calling.proofs.reader.ask_on.Statement.{statement}
 use Rattle.calling.proofs.reader.ask_on.Tie as tie
 
 abbrev Inv-loop : tie.InvT-loop
-Inv-loop table pool start row page₀ used waiting₀ at₀ t15 page waiting at = Unit {0}
+Inv-loop table pool start row page₀ used waiting₀ at₀ t15 page waiting at = Asking table pool start row page₀ used page waiting at
 
 abbrev μ-loop : tie.MeasureT-loop
 μ-loop table pool start row page₀ used waiting₀ at₀ t15 page waiting at = length row - at
@@ -19,16 +19,16 @@ ask-on-spec =
     (tie.spec
     Inv-loop
     μ-loop
-    (λ c. tt)
+    (λ c. ask-none)
     (λ c κs. search needs)
     (λ c. search needs)
     (λ c κs. search needs)
-    (λ c. nearer _ _ _ _ _ (c .before .before .before .before .before .read-at .ensures) (c .before .before .before .handed .given .1))
-    (λ c. tt)
+    (λ c. nearer (c .before .before .before .before .before .before .loop .inv) (c .before .before .before .before .before .read-at .ensures) (c .before .before .before .handed .given .1))
+    (λ c. ask-more (c .before .before .before .before .before .before .loop .inv) (c .before .before .before .before .before .read-at .ensures) (c .before .before .before .handed .given .1) (c .item-line .ensures))
     (λ c. search needs)
     (λ c. search needs)
     (λ c κs. search needs)
-    (λ c. search needs)
+    (λ c. ask-end (c .before .before .before .before .before .before .loop .inv) (c .before .before .before .before .before .read-at .ensures) (c .before .before .before .enum-told .given .1) (c .put-text .ensures))
     (λ c. search needs)
     (λ c κs. search needs)
-    (λ c. search needs))
+    (λ c. ask-refused (c .before .before .before .before .before .before .loop .inv) (c .before .before .before .before .before .read-at .ensures) (c .before .before .before .handed2 .given .1) (c .refused-line .ensures)))

@@ -1,8 +1,9 @@
 -- `calling::row::answer` lends no more than the buffer has.
 -- Assumes nothing.
 use borrow.Author.Needs.{needs}
-use Rattle.calling.proofs.Fields.{lends}
 use native.Mathlib.Omega.{arith}
+use Rattle.calling.proofs.Fields.{lending, buffer-none, buffer-text}
+use Rattle.calling.proofs.Answers.{told}
 use Rattle.calling.proofs.row.answer.Statement.{statement}
 use Rattle.calling.proofs.row.answer.Tie as tie
 
@@ -14,6 +15,6 @@ answer-spec =
     (λ c. search needs)
     (λ c. search needs)
     (λ c κs. search needs)
-    (λ c. search needs)
-    (λ c κs. let (room, lo, hi) = lends (c .before .before .before .before .before .before .before .take-lent .ensures) (c .before .before .before .before .before .start .given .1) in (lo, omega arith, omega arith))
-    (λ c. search needs))
+    (λ c. told (buffer-none (c .before .before .before .before .take-lent .ensures) _ (c .before .before .enum-told .given .1)) (c .unreadable .ensures))
+    (λ c κs. let l = lending (c .before .before .before .before .before .before .before .take-lent .ensures) (c .before .before .before .before .before .start .given .1) in (omega (arith, l .size), omega (arith, l .size, l .few), omega (arith, l .fits)))
+    (λ c. told (buffer-text (c .before .before .before .before .before .before .before .before .take-lent .ensures) (c .before .before .before .before .before .before .start .given .1) _) (c .lend .ensures)))

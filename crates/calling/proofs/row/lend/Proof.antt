@@ -3,6 +3,7 @@
 use borrow.Author.Needs.{needs}
 use native.Mathlib.Omega.{arith}
 use lib.ListN.{length-take}
+use lib.Seq.{length-take-le}
 use Rattle.calling.proofs.row.lend.Statement.{statement}
 use Rattle.calling.proofs.row.lend.Tie as tie
 
@@ -17,4 +18,4 @@ lend-spec =
     (λ c. simp length-take (omega arith))
     (λ c κs. search needs)
     (λ c. search needs)
-    (λ c. search needs))
+    (λ c. rw (length-take-le _ _ (c .before .before .before .before .before .before .before .before .before .before .pre .2)) at (c .before .before .call .ensures)))

@@ -1,0 +1,3 @@
+-- Texts one behind another, and the words of a buffer.
+pub mod Pages
+pub mod Buffers
