@@ -14,7 +14,7 @@ use lib.ListN.{length, take, drop}
 use Rattle.grammar.specs.Verdict.{verdict}
 use Rattle.grammar.specs.declared.refusal.Verdict.{Verdict}
 use Rattle.grammar.specs.declared.refusal.Verdict.the-variants.{Accepted, Refused}
-use Rattle.walk.specs.Grammar.{grammarOf}
+use Rattle.visits.specs.Grammar.{grammarOf}
 use Rattle.walk.specs.Walk.{walk, cells, depth}
 use Rattle.lines.specs.Ascii.{bytes}
 use Rattle.lines.specs.Line.{Reading, numbers, unreadable}

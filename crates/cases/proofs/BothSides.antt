@@ -19,11 +19,11 @@ use Rattle.grammar.specs.Sizes.{sizeAt, sizes}
 use Rattle.grammar.specs.Verdict.{verdict}
 use Rattle.grammar.specs.declared.refusal.Refusal.the-variants.{NotACase}
 use Rattle.grammar.specs.declared.refusal.Verdict.the-variants.{Accepted}
-use Rattle.walk.specs.Grammar.{grammarOf}
+use Rattle.visits.specs.Grammar.{grammarOf}
 use Rattle.walk.specs.Walk.{walk, cells, depth}
 use Rattle.walk.specs.Room.{Case, most}
-use Rattle.walk.specs.Reading.{read, taken}
-use Rattle.walk.specs.Good.{Good}
+use Rattle.visits.specs.Reading.{read, taken}
+use Rattle.visits.specs.Good.{Good}
 use Rattle.walk.proofs.Parts.{Goes}
 use Rattle.walk.proofs.Back.{shifted-none, back}
 use Rattle.walk.proofs.Only.{only, prefix-free}

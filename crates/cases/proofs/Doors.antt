@@ -16,10 +16,10 @@ use Rattle.grammar.specs.Sizes.{sizeAt, sizes}
 use Rattle.grammar.specs.Verdict.{verdict}
 use Rattle.grammar.specs.declared.refusal.Refusal.the-variants.{NotACase, NumberTooLarge}
 use Rattle.grammar.specs.declared.refusal.Verdict.the-variants.{Accepted}
-use Rattle.walk.specs.Grammar.{grammarOf}
+use Rattle.visits.specs.Grammar.{grammarOf}
 use Rattle.walk.specs.Walk.{cell, walk, cells, depth}
 use Rattle.walk.specs.Room.{most}
-use Rattle.walk.specs.Reading.{Read, read, wrong, taken}
+use Rattle.visits.specs.Reading.{Read, read, wrong, taken}
 use Rattle.checked.specs.Fits.{Asked, roomFor, fitted}
 use Rattle.checked.specs.declared.fits.Fit.{Fit}
 use Rattle.checked.specs.declared.fits.Fit.the-variants.{Cells, Not}

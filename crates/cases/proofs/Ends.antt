@@ -16,12 +16,12 @@ use Rattle.grammar.specs.Verdict.{leads, verdict}
 use Rattle.grammar.specs.declared.refusal.Verdict.the-variants.{Accepted}
 use Rattle.grammar.proofs.ByKind.{by-kind}
 use Rattle.cycles.proofs.Steps.{step-to}
-use Rattle.walk.specs.Grammar.{Grammar, grammarOf}
-use Rattle.walk.specs.Visit.{visit}
+use Rattle.visits.specs.Grammar.{Grammar, grammarOf}
+use Rattle.visits.specs.Visit.{visit}
 use Rattle.walk.specs.Walk.{cell, walk, cells}
-use Rattle.walk.specs.Good.{Good}
-use Rattle.walk.specs.declared.step.Step.{Step as Visited}
-use Rattle.walk.specs.declared.step.Step.the-variants.{Cell, Pass, Plus, Tag, Two}
+use Rattle.visits.specs.Good.{Good}
+use Rattle.visits.specs.declared.step.Step.{Step as Visited}
+use Rattle.visits.specs.declared.step.Step.the-variants.{Cell, Pass, Plus, Tag, Two}
 use Rattle.walk.proofs.Parts.{Goes, PartsOf, parts-of}
 use Rattle.checked.proofs.Walking.{good-of}
 use Rattle.cases.proofs.Meaning.{leads-is, accepted-means, accepted-long, accepted-passes, accepted-checked}

@@ -15,7 +15,7 @@ use Rattle.grammar.specs.Table.{nodes}
 use Rattle.grammar.specs.Verdict.{verdict}
 use Rattle.grammar.specs.declared.refusal.Verdict.{Verdict}
 use Rattle.grammar.specs.declared.refusal.Verdict.the-variants.{Accepted, Refused as Refuses}
-use Rattle.walk.specs.Grammar.{Grammar, grammarOf}
+use Rattle.visits.specs.Grammar.{Grammar, grammarOf}
 use Rattle.walk.specs.Walk.{Event, walk, cells, depth}
 use Rattle.walk.specs.Filled.{over}
 use Rattle.walk.proofs.Fills.{over-front}

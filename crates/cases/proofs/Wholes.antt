@@ -11,11 +11,11 @@ use Prim.Native.Nat.{ℕ, zero, suc, _≤_}
 use native.Mathlib.Nat.{not-suc-le-zero, le-of-suc-le-suc}
 use native.Mathlib.Omega.{arith}
 use Rattle.graph.proofs.Marks.{le-or-lt}
-use Rattle.walk.specs.Grammar.{Grammar}
-use Rattle.walk.specs.Visit.{visit}
+use Rattle.visits.specs.Grammar.{Grammar}
+use Rattle.visits.specs.Visit.{visit}
 use Rattle.walk.specs.Walk.{Event, cell, deep, raised, shown, walk, cells}
-use Rattle.walk.specs.declared.step.Step.{Step}
-use Rattle.walk.specs.declared.step.Step.the-variants.{Cell, Pass, Plus, Tag, Two}
+use Rattle.visits.specs.declared.step.Step.{Step}
+use Rattle.visits.specs.declared.step.Step.the-variants.{Cell, Pass, Plus, Tag, Two}
 
 abbrev pub Whole : List Event → Type 0
 Whole [] = Unit {0}

@@ -1,9 +1,9 @@
 // From cells to the number.
 ghost use mathlib.Core.Path.{_≡_};
 ghost use Prim.Native.Nat.{ℕ, _^_, _≤_};
-ghost use Rattle.walk.specs.Reading.{Read};
+ghost use Rattle.visits.specs.Reading.{Read};
 ghost use Rattle.walk.specs.Room.{most};
-ghost use Rattle.walk.specs.Got.{Took};
+ghost use Rattle.visits.specs.Got.{Took};
 ghost use Rattle.checked.specs.Prepared.{Blank, Planning};
 ghost use Rattle.cases.specs.Read.{found, finds, reads};
 use checked::fits::DEPTH;
@@ -15,7 +15,7 @@ use checked::prepared::prepare;
 use grammar::refusal::Refusal;
 use grammar::refusal::Verdict;
 use numbers::size::LARGEST;
-use walk::number::Got;
+use visits::number::Got;
 use walk::take::take;
 
 // The number, or the refusal and its node.

@@ -1,6 +1,6 @@
 // From a number to cells.
 ghost use lib.ListN.{length};
-ghost use Rattle.walk.specs.Grammar.{planned};
+ghost use Rattle.visits.specs.Grammar.{planned};
 ghost use Rattle.checked.specs.Prepared.{Blank, Planning, Stands};
 ghost use Rattle.cases.specs.Write.{Settled, Wrote, WroteCase, WrotePlanned};
 use checked::decided::decided;

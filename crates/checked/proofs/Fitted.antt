@@ -14,7 +14,7 @@ use borrow.Author.Tests.{lt-ltb}
 use Rattle.numbers.specs.Pick.{pick}
 use Rattle.numbers.specs.Size.{Size, finite, endless}
 use Rattle.grammar.specs.declared.refusal.Refusal.the-variants.{NoSuchNumber}
-use Rattle.walk.specs.Grammar.{Grammar}
+use Rattle.visits.specs.Grammar.{Grammar}
 use Rattle.walk.specs.Walk.{Event, cell, deep, walk, cells, depth}
 use Rattle.walk.specs.Room.{Left, tallied}
 use Rattle.checked.specs.Fits.{asked, Asked, roomFor, outcome, fitted}

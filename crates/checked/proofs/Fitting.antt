@@ -17,13 +17,13 @@ use Rattle.numbers.specs.Size.{Size, finite, endless, sizeOf, below}
 use Rattle.numbers.proofs.size.Laws.{by-size}
 use Rattle.grammar.specs.declared.refusal.Refusal.the-variants.{NoSuchNumber, TooDeep, NoRoom}
 use Rattle.grammar.proofs.Tests.{and-left, and-right}
-use Rattle.walk.specs.Grammar.{planned}
+use Rattle.visits.specs.Grammar.{planned}
 use Rattle.walk.specs.Walk.{Event, walk, depth}
 use Rattle.walk.specs.Room.{RoomLeft, Left, tallied}
 use Rattle.walk.specs.Room.{TooDeep as Deep, NoRoom as Full}
 use Rattle.walk.specs.Laid.{leftOf, Laid}
 use Rattle.walk.proofs.Lays.{word-left, tally-count}
-use Rattle.walk.specs.Good.{Visits}
+use Rattle.visits.specs.Good.{Visits}
 use Rattle.checked.specs.Prepared.{Stands}
 use Rattle.checked.specs.Fits.{asked, Asked, roomFor, outcome, fitted, FitOver}
 use Rattle.checked.specs.declared.fits.Fit.{Fit}

@@ -11,14 +11,14 @@ use lib.ListN.{length, drop, length-append, length-drop, drop-of-length-le}
 use borrow.Author.Tests.{lt-ltb, le-ltb}
 use Rattle.grammar.specs.declared.refusal.Refusal.{Refusal}
 use Rattle.grammar.specs.declared.refusal.Refusal.the-variants.{NumberTooLarge}
-use Rattle.walk.specs.Grammar.{planned}
+use Rattle.visits.specs.Grammar.{planned}
 use Rattle.walk.specs.Walk.{depth}
 use Rattle.walk.specs.Room.{most}
-use Rattle.walk.specs.Reading.{Read, taken}
-use Rattle.walk.specs.Got.{Took}
-use Rattle.walk.specs.Look.{Reading}
-use Rattle.walk.specs.declared.number.Got.{Got}
-use Rattle.walk.specs.declared.number.Got.the-variants.{Number as Read-number, Big, Wrong}
+use Rattle.visits.specs.Reading.{Read, taken}
+use Rattle.visits.specs.Got.{Took}
+use Rattle.visits.specs.Look.{Reading}
+use Rattle.visits.specs.declared.number.Got.{Got}
+use Rattle.visits.specs.declared.number.Got.the-variants.{Number as Read-number, Big, Wrong}
 use Rattle.walk.proofs.Takes.{told}
 use Rattle.walk.proofs.Back.{shifted-none}
 use Rattle.walk.proofs.Only.{only}

@@ -25,8 +25,8 @@ use Rattle.grammar.specs.Sound.{Sound, Checked}
 use Rattle.grammar.proofs.Scan.{scan-size}
 use Rattle.grammar.proofs.Plans.{plan-sizes}
 use Rattle.grammar.proofs.Tests.{and-left, and-right}
-use Rattle.walk.specs.Grammar.{grammarOf, nodeIn, planned}
-use Rattle.walk.specs.Good.{Single, Fits, Good, Walkable}
+use Rattle.visits.specs.Grammar.{grammarOf, nodeIn, planned}
+use Rattle.visits.specs.Good.{Single, Fits, Good, Walkable}
 use Rattle.checked.specs.Prepared.{Planning, Stands}
 
 -- ---- the plan's grammar

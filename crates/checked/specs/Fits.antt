@@ -14,7 +14,7 @@ use lib.ListN.{length}
 use Rattle.numbers.specs.Pick.{pick}
 use Rattle.numbers.specs.Size.{Size, below, Below}
 use Rattle.grammar.specs.declared.refusal.Refusal.the-variants.{NoSuchNumber, TooDeep, NoRoom}
-use Rattle.walk.specs.Grammar.{Grammar}
+use Rattle.visits.specs.Grammar.{Grammar}
 use Rattle.walk.specs.Walk.{walk, cells, depth}
 use Rattle.walk.specs.Filled.{over}
 use Rattle.walk.specs.Room.{RoomLeft, Left, tallied, most}

@@ -11,10 +11,10 @@ use lib.ListN.{length, drop}
 use Rattle.numbers.specs.Pick.{pick}
 use Rattle.grammar.specs.declared.refusal.Refusal.{Refusal}
 use Rattle.grammar.specs.declared.refusal.Refusal.the-variants.{NumberTooLarge}
-use Rattle.walk.specs.Grammar.{Grammar}
+use Rattle.visits.specs.Grammar.{Grammar}
 use Rattle.walk.specs.Walk.{depth}
 use Rattle.walk.specs.Room.{most}
-use Rattle.walk.specs.Reading.{Read, read, wrong, taken}
+use Rattle.visits.specs.Reading.{Read, read, wrong, taken}
 use Rattle.checked.specs.declared.item.Item.{Item}
 use Rattle.checked.specs.declared.item.Item.the-variants.{Number, Not}
 

@@ -12,7 +12,7 @@ use Rattle.grammar.specs.Plan.{Planned}
 use Rattle.grammar.specs.Verdict.{verdict}
 use Rattle.grammar.specs.declared.refusal.Verdict.{Verdict}
 use Rattle.grammar.specs.declared.refusal.Verdict.the-variants.{Accepted}
-use Rattle.walk.specs.Good.{Walkable}
+use Rattle.visits.specs.Good.{Walkable}
 use lib.ListN.{length, replicate}
 use Prim.Native.Nat.{ℕ, _*_, _≤_, _<_}
 

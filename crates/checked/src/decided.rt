@@ -1,6 +1,6 @@
 // The first pass of a call decides on one number, and is lent no cell that it could write.
 ghost use mathlib.Core.Path.{_≡_};
-ghost use Rattle.walk.specs.Grammar.{planned};
+ghost use Rattle.visits.specs.Grammar.{planned};
 ghost use Rattle.checked.specs.Prepared.{Stands};
 ghost use Rattle.checked.specs.Fits.{fitted};
 use super::fits::DEPTH;

@@ -2,7 +2,7 @@
 ghost use mathlib.Core.Path.{_≡_};
 ghost use Prim.Native.Nat.{_^_, _<_, _≤_};
 ghost use Rattle.numbers.specs.Size.{sizeOf};
-ghost use Rattle.walk.specs.Grammar.{planned};
+ghost use Rattle.visits.specs.Grammar.{planned};
 ghost use Rattle.walk.specs.Laid.{leftOf};
 ghost use Rattle.checked.specs.Prepared.{Stands};
 ghost use Rattle.checked.specs.Fits.{roomFor, outcome, FitOver};

@@ -1,14 +1,14 @@
 // One case at the front of cells, on a checked table: "the walk, then 16".
 ghost use Prim.Native.Nat.{_≤_};
 ghost use lib.ListN.{length, drop};
-ghost use Rattle.walk.specs.Grammar.{planned};
+ghost use Rattle.visits.specs.Grammar.{planned};
 ghost use Rattle.checked.specs.Prepared.{Stands};
 ghost use Rattle.checked.specs.Item.{front, Stood};
 use super::fits::DEPTH;
 use super::fits::MOST_CELLS;
 use grammar::refusal::Refusal;
 use numbers::size::LARGEST;
-use walk::number::Got;
+use visits::number::Got;
 use walk::take::take;
 
 // The number and the place after its cells, or why there is none.

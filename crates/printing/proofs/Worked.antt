@@ -20,7 +20,7 @@ use Rattle.grammar.specs.Rows.{row, different, every, total, belowRow, natsRow,
 use Rattle.grammar.specs.Sizes.{onward, scan, sizes}
 use Rattle.grammar.specs.Steps.{steps}
 use Rattle.grammar.specs.Verdict.{leads, unguarded, exceptOnCycle, cycles, settled, verdict}
-use Rattle.walk.specs.Visit.{secondsOf, stepOf}
+use Rattle.visits.specs.Visit.{secondsOf, stepOf}
 use Rattle.walk.specs.Walk.{raised, shown, walk, cells}
 use Rattle.walk.specs.Room.{tallied}
 use Rattle.checked.specs.Fits.{fitted}

@@ -19,7 +19,7 @@ use Rattle.grammar.specs.Verdict.{verdict}
 use Rattle.grammar.specs.declared.refusal.Refusal.the-variants.{NoSuchStart}
 use Rattle.grammar.specs.declared.refusal.Verdict.{Verdict}
 use Rattle.grammar.specs.declared.refusal.Verdict.the-variants.{Accepted, Refused}
-use Rattle.walk.specs.Grammar.{grammarOf}
+use Rattle.visits.specs.Grammar.{grammarOf}
 use Rattle.walk.specs.Walk.{walk, cells, depth}
 use Rattle.lines.specs.Line.{stored}
 use Rattle.cases.specs.Write.{writes}

@@ -14,7 +14,7 @@ use Rattle.grammar.specs.Table.{nodes}
 use Rattle.grammar.specs.Verdict.{verdict}
 use Rattle.grammar.specs.declared.refusal.Refusal.{Refusal}
 use Rattle.grammar.specs.declared.refusal.Verdict.the-variants.{Accepted}
-use Rattle.walk.specs.Grammar.{Grammar, grammarOf}
+use Rattle.visits.specs.Grammar.{Grammar, grammarOf}
 use Rattle.walk.specs.Filled.{over}
 use Rattle.walk.proofs.Fills.{over-front}
 use Rattle.rows.specs.Row.{leaves}

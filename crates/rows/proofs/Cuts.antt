@@ -22,10 +22,10 @@ use Rattle.grammar.specs.Verdict.{verdict}
 use Rattle.grammar.specs.declared.refusal.Refusal.{Refusal}
 use Rattle.grammar.specs.declared.refusal.Refusal.the-variants.{NumberTooLarge}
 use Rattle.grammar.specs.declared.refusal.Verdict.the-variants.{Accepted}
-use Rattle.walk.specs.Grammar.{Grammar, grammarOf}
+use Rattle.visits.specs.Grammar.{Grammar, grammarOf}
 use Rattle.walk.specs.Walk.{walk, cells, depth}
 use Rattle.walk.specs.Room.{Case, most}
-use Rattle.walk.specs.Reading.{Read, read, wrong, taken}
+use Rattle.visits.specs.Reading.{Read, read, wrong, taken}
 use Rattle.walk.proofs.Back.{shifted-none}
 use Rattle.walk.proofs.Only.{only}
 use Rattle.walk.proofs.Strides.{case-some}

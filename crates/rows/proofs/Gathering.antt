@@ -11,7 +11,7 @@ use native.Mathlib.Omega.{arith}
 use lib.ListN.{length, drop, set, length-append, length-drop, drop-of-length-le}
 use Rattle.grammar.specs.declared.refusal.Refusal.{Refusal}
 use Rattle.grammar.specs.declared.refusal.Refusal.the-variants.{NoRoom}
-use Rattle.walk.specs.Grammar.{Grammar}
+use Rattle.visits.specs.Grammar.{Grammar}
 use Rattle.walk.specs.Filled.{over}
 use Rattle.checked.specs.Item.{Front, front, StoodBy, Stood}
 use Rattle.checked.specs.declared.item.Item.{Item}

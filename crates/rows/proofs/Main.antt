@@ -13,7 +13,7 @@ use Rattle.grammar.specs.Verdict.{verdict}
 use Rattle.grammar.specs.declared.refusal.Refusal.{Refusal}
 use Rattle.grammar.specs.declared.refusal.Refusal.the-variants.{NotACase}
 use Rattle.grammar.specs.declared.refusal.Verdict.the-variants.{Accepted}
-use Rattle.walk.specs.Grammar.{grammarOf}
+use Rattle.visits.specs.Grammar.{grammarOf}
 use Rattle.walk.specs.Walk.{cell, walk}
 use Rattle.walk.specs.Room.{Case}
 use Rattle.checked.specs.Fits.{Asked}

@@ -9,7 +9,7 @@ use Rattle.grammar.specs.Table.{nodes}
 use Rattle.grammar.specs.Sizes.{sizeAt, sizes}
 use Rattle.grammar.specs.Verdict.{verdict}
 use Rattle.grammar.specs.declared.refusal.Verdict.the-variants.{Accepted}
-use Rattle.walk.specs.Grammar.{grammarOf}
+use Rattle.visits.specs.Grammar.{grammarOf}
 use Rattle.walk.specs.Room.{Case}
 use Rattle.checked.specs.Fits.{Asked}
 use Rattle.cases.specs.Write.{Wrote}

@@ -7,7 +7,7 @@ use mathlib.Core.List.{List}
 use Prim.Native.Nat.{ℕ}
 use Rattle.grammar.specs.Verdict.{verdict}
 use Rattle.grammar.specs.declared.refusal.Verdict.{Verdict}
-use Rattle.walk.specs.Grammar.{grammarOf}
+use Rattle.visits.specs.Grammar.{grammarOf}
 use Rattle.walk.specs.Walk.{walk, cells, depth}
 use Rattle.cases.specs.Write.{Wrote}
 use Rattle.cases.specs.Write as Write

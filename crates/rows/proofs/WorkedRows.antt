@@ -19,12 +19,12 @@ use Rattle.grammar.specs.Rows.{row, different, every, total, belowRow, natsRow,
 use Rattle.grammar.specs.Sizes.{onward, scan, sizes}
 use Rattle.grammar.specs.Steps.{steps}
 use Rattle.grammar.specs.Verdict.{leads, unguarded, exceptOnCycle, cycles, settled, verdict}
-use Rattle.walk.specs.Grammar.{grammarOf}
-use Rattle.walk.specs.Visit.{secondsOf, stepOf}
+use Rattle.visits.specs.Grammar.{grammarOf}
+use Rattle.visits.specs.Visit.{secondsOf, stepOf}
 use Rattle.walk.specs.Walk.{raised, shown, walk}
 use Rattle.walk.specs.Walk
 use Rattle.walk.specs.Room.{tallied}
-use Rattle.walk.specs.Reading.{cellOf, placeOf, ahead, become, follow, taken}
+use Rattle.visits.specs.Reading.{cellOf, placeOf, ahead, become, follow, taken}
 use Rattle.checked.specs.Fits.{fitted}
 use Rattle.checked.specs.Item.{frontOf}
 use Rattle.cases.proofs.Worked.{L}

@@ -14,7 +14,7 @@ use Rattle.numbers.specs.Pick.{pick}
 use Rattle.grammar.specs.Table.{nodes}
 use Rattle.grammar.specs.Verdict.{verdict}
 use Rattle.grammar.specs.declared.refusal.Refusal.the-variants.{NoSuchStart}
-use Rattle.walk.specs.Grammar.{Grammar, grammarOf}
+use Rattle.visits.specs.Grammar.{Grammar, grammarOf}
 use Rattle.walk.specs.Walk.{walk, cells, depth}
 use Rattle.walk.specs.Filled.{over}
 use Rattle.checked.specs.Fits.{fitted}

@@ -1,7 +1,7 @@
 // From a row of cells to numbers.
 ghost use mathlib.Core.Path.{_≡_};
 ghost use lib.ListN.{length, set};
-ghost use Rattle.walk.specs.Grammar.{planned};
+ghost use Rattle.visits.specs.Grammar.{planned};
 ghost use Rattle.walk.specs.Filled.{over};
 ghost use Rattle.checked.specs.Prepared.{Blank, Planning, Stands};
 ghost use Rattle.checked.specs.Kept.{Kept};

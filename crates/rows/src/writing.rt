@@ -1,6 +1,6 @@
 // From numbers to a row of cells.
 ghost use mathlib.Core.Path.{_≡_};
-ghost use Rattle.walk.specs.Grammar.{planned};
+ghost use Rattle.visits.specs.Grammar.{planned};
 ghost use Rattle.checked.specs.Prepared.{Blank, Planning, Stands};
 ghost use Rattle.rows.specs.WriteRow.{inTurn, RowOver, WroteRow, WroteRowPlanned};
 use super::answer::Row;

@@ -23,11 +23,11 @@ use Rattle.numbers.proofs.except.Laws as Excepts
 use Rattle.grammar.specs.Node.{Node, below, nats, pool, shift, or, cons, dep, except, fix, again, unknown}
 use Rattle.grammar.specs.Rows.{seconds}
 use Rattle.grammar.proofs.Runs.{run-long, run-at}
-use Rattle.walk.specs.Grammar.{Grammar}
-use Rattle.walk.specs.Visit.{secondsOf, tagged, stepOf}
+use Rattle.visits.specs.Grammar.{Grammar}
+use Rattle.visits.specs.Visit.{secondsOf, tagged, stepOf}
 use Rattle.walk.specs.Walk.{Event, cell, deep, raised, shown, walk}
-use Rattle.walk.specs.Reading.{read, cellOf, tagOf, ahead, become, then, follow, taken}
-use Rattle.walk.specs.Good.{Single, Fits, Good}
+use Rattle.visits.specs.Reading.{read, cellOf, tagOf, ahead, become, then, follow, taken}
+use Rattle.visits.specs.Good.{Single, Fits, Good}
 use Rattle.walk.proofs.Parts.{Goes, PartsOf, parts-of}
 use Rattle.walk.proofs.Words.{word-in, place-word}
 

@@ -18,14 +18,14 @@ use Rattle.grammar.specs.Rows.{few, seconds, isEndless}
 use Rattle.grammar.specs.Rows.{count as countOf}
 use Rattle.grammar.specs.Plan.{sizeIn}
 use Rattle.grammar.proofs.Runs.{run-at, lower-run, finite-run}
-use Rattle.walk.specs.Grammar.{planned}
-use Rattle.walk.specs.Visit.{counts, secondsOf}
-use Rattle.walk.specs.Look.{Reading}
-use Rattle.walk.specs.Got.{DepJoins}
-use Rattle.walk.specs.Good.{Seconds, firsts, headSize}
-use Rattle.walk.proofs.Seconds.{finite-total}
+use Rattle.visits.specs.Grammar.{planned}
+use Rattle.visits.specs.Visit.{counts, secondsOf}
+use Rattle.visits.specs.Look.{Reading}
+use Rattle.visits.specs.Got.{DepJoins}
+use Rattle.visits.specs.Good.{Seconds, firsts, headSize}
+use Rattle.visits.proofs.Seconds.{finite-total}
 use Rattle.walk.proofs.Parts.{seconds-long, dep-least}
-use Rattle.walk.proofs.Nodes.{some-word, few-word, run-not-endless, run-finite, run-endless}
+use Rattle.visits.proofs.Nodes.{some-word, few-word, run-not-endless, run-finite, run-endless}
 use Rattle.walk.proofs.Leads.{Chooses, part-reads}
 
 few-below : (s : Size) (x : ℕ) → few s ≡ true → Below x s → x < countOf s

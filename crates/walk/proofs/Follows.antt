@@ -11,14 +11,14 @@ use native.Mathlib.Omega.{arith}
 use Rattle.numbers.specs.Size.{Below}
 use Rattle.grammar.specs.Node.{Node}
 use Rattle.grammar.proofs.ByKind.{by-kind}
-use Rattle.walk.specs.Grammar.{Grammar, planned, nodeIn}
-use Rattle.walk.specs.Visit.{stepOf, visit}
+use Rattle.visits.specs.Grammar.{Grammar, planned, nodeIn}
+use Rattle.visits.specs.Visit.{stepOf, visit}
 use Rattle.walk.specs.Walk.{shown, walk}
-use Rattle.walk.specs.Reading.{Read, read, wrong, on, same, ahead, become, then, follow, taken}
-use Rattle.walk.specs.Good.{Single, Fits, Walkable, Visits}
+use Rattle.visits.specs.Reading.{Read, read, wrong, on, same, ahead, become, then, follow, taken}
+use Rattle.visits.specs.Good.{Single, Fits, Walkable, Visits}
 use Rattle.walk.specs.Follow.{Stays, Followed}
-use Rattle.walk.specs.declared.step.Step.the-variants.{Pass}
-use Rattle.walk.proofs.Nodes.{kindAt, aAt, bAt}
+use Rattle.visits.specs.declared.step.Step.the-variants.{Pass}
+use Rattle.visits.proofs.Nodes.{kindAt, aAt, bAt}
 use Rattle.walk.proofs.Walks.{walk-shows}
 use Rattle.walk.proofs.Takes.{taken-by}
 

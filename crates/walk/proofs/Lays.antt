@@ -20,14 +20,14 @@ use Rattle.numbers.specs.Pick.{pick}
 use lib.ListN.{length, getD, take, drop, set, length-append, length-drop, length-take}
 use Rattle.grammar.specs.Plan.{sizeIn}
 use Rattle.grammar.proofs.ByKind.{by-kind}
-use Rattle.walk.specs.Grammar.{planned}
-use Rattle.walk.specs.Visit.{stepOf, visit}
+use Rattle.visits.specs.Grammar.{planned}
+use Rattle.visits.specs.Visit.{stepOf, visit}
 use Rattle.walk.specs.Walk.{Event, cell, deep, raised, shown, walk, cells}
-use Rattle.walk.specs.declared.step.Step.the-variants.{Cell}
+use Rattle.visits.specs.declared.step.Step.the-variants.{Cell}
 use Rattle.walk.specs.Filled.{over}
 use Rattle.walk.specs.Laid.{leftOf, lifted, Laid}
 use Rattle.walk.specs.Room.{RoomLeft, Left, TooDeep, NoRoom, tallied, most}
-use Rattle.walk.proofs.Nodes.{kindAt, aAt, bAt}
+use Rattle.visits.proofs.Nodes.{kindAt, aAt, bAt}
 use Rattle.walk.proofs.Fills.{part-old, part-rest, then}
 use Rattle.walk.proofs.Walks.{walk-shows, One, too-deep, one-cell, tallied-raised, tallied-full, tallied-one, two-left, two-deep, two-full, cells-append}
 

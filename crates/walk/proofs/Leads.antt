@@ -18,14 +18,14 @@ use Rattle.grammar.specs.Rows.{count as countOf}
 use Rattle.grammar.proofs.Runs.{run-long}
 use Rattle.grammar.specs.declared.refusal.Refusal.{Refusal}
 use Rattle.grammar.specs.declared.refusal.Refusal.the-variants.{NoRoom, NotACase}
-use Rattle.walk.specs.Grammar.{Grammar, planned, nodeIn}
-use Rattle.walk.specs.Reading.{Ahead, ends, fails, on, both, chosen, Become, same, turned, without, cellOf, fit, tagOf, placeOf, ahead}
-use Rattle.walk.specs.Look.{seen, Reading}
-use Rattle.walk.specs.Got.{SmallHow, becomes}
-use Rattle.walk.specs.Good.{Single, Fits}
-use Rattle.walk.specs.declared.look.Next.{Next}
-use Rattle.walk.specs.declared.number.How.{How}
-use Rattle.walk.specs.declared.number.How.the-variants.{Same, Turned, Without}
+use Rattle.visits.specs.Grammar.{Grammar, planned, nodeIn}
+use Rattle.visits.specs.Reading.{Ahead, ends, fails, on, both, chosen, Become, same, turned, without, cellOf, fit, tagOf, placeOf, ahead}
+use Rattle.visits.specs.Look.{seen, Reading}
+use Rattle.visits.specs.Got.{SmallHow, becomes}
+use Rattle.visits.specs.Good.{Single, Fits}
+use Rattle.visits.specs.declared.look.Next.{Next}
+use Rattle.visits.specs.declared.number.How.{How}
+use Rattle.visits.specs.declared.number.How.the-variants.{Same, Turned, Without}
 
 -- a dep's seconds, as a list of nodes
 pub record Chooses (g : Grammar) (count i a : ℕ) (ss : List ℕ) : Type 0 where

@@ -17,17 +17,17 @@ use Rattle.grammar.specs.declared.refusal.Refusal.{Refusal}
 use Rattle.grammar.specs.declared.refusal.Refusal.the-variants.{NotACase}
 use Rattle.grammar.specs.Plan.{sizeIn}
 use Rattle.graph.proofs.Marks.{same?}
-use Rattle.walk.specs.Grammar.{planned, nodeIn}
-use Rattle.walk.specs.Reading.{Ahead, ends, fails, read, wrong, cellOf, fit, ahead, follow, taken}
-use Rattle.walk.specs.Look.{celled}
-use Rattle.walk.specs.Got.{gotOf}
+use Rattle.visits.specs.Grammar.{planned, nodeIn}
+use Rattle.visits.specs.Reading.{Ahead, ends, fails, read, wrong, cellOf, fit, ahead, follow, taken}
+use Rattle.visits.specs.Look.{celled}
+use Rattle.visits.specs.Got.{gotOf}
 use Rattle.walk.specs.Leaf.{Leaf}
-use Rattle.walk.specs.declared.look.Celled.{Celled}
-use Rattle.walk.specs.declared.look.Celled.the-variants.{Cell, None}
-use Rattle.walk.specs.declared.number.Got.{Got}
-use Rattle.walk.specs.declared.number.Got.the-variants.{Wrong}
-use Rattle.walk.proofs.Nodes.{kindAt, aAt}
-use Rattle.walk.proofs.Looks.{cell-ahead, none-ahead}
+use Rattle.visits.specs.declared.look.Celled.{Celled}
+use Rattle.visits.specs.declared.look.Celled.the-variants.{Cell, None}
+use Rattle.visits.specs.declared.number.Got.{Got}
+use Rattle.visits.specs.declared.number.Got.the-variants.{Wrong}
+use Rattle.visits.proofs.Nodes.{kindAt, aAt}
+use Rattle.visits.proofs.Looks.{cell-ahead, none-ahead}
 use Rattle.walk.proofs.Takes.{taken-by, ends-took}
 
 sub-none : (c : ℕ) → c - 0 ≡ c

@@ -5,11 +5,11 @@
 use mathlib.Core.Path.{_≡_, subst, sym, _∙_}
 use mathlib.Core.List.{List}
 use Prim.Native.Nat.{ℕ, _+_, _^_, _≤_}
-use Rattle.walk.specs.Grammar.{planned, nodeIn}
-use Rattle.walk.specs.Visit.{visit}
-use Rattle.walk.specs.Good.{Single, Walkable, Visits}
-use Rattle.walk.specs.declared.step.Step.{Step}
-use Rattle.walk.specs.declared.step.Step.the-variants.{Cell, Pass, Plus, Tag, Two}
+use Rattle.visits.specs.Grammar.{planned, nodeIn}
+use Rattle.visits.specs.Visit.{visit}
+use Rattle.visits.specs.Good.{Single, Walkable, Visits}
+use Rattle.visits.specs.declared.step.Step.{Step}
+use Rattle.visits.specs.declared.step.Step.the-variants.{Cell, Pass, Plus, Tag, Two}
 use Rattle.walk.proofs.Parts.{Goes, Part1, PartsOf, parts-of}
 
 pub record Next1 (plan p : List ℕ) (n q m : ℕ) : Type 0 where

@@ -35,11 +35,11 @@ use Rattle.grammar.specs.declared.refusal.Refusal.{Refusal}
 use Rattle.grammar.specs.declared.refusal.Refusal.the-variants.{NoRoom, NotACase}
 use Rattle.grammar.proofs.Runs.{run-long, run-at}
 use Rattle.grammar.proofs.Tests.{and-left, and-right}
-use Rattle.walk.specs.Grammar.{Grammar}
-use Rattle.walk.specs.Visit.{secondsOf, tagged, paired, depends, stepOf}
+use Rattle.visits.specs.Grammar.{Grammar}
+use Rattle.visits.specs.Visit.{secondsOf, tagged, paired, depends, stepOf}
 use Rattle.walk.specs.Walk.{Event, cell, raised, shown, walk}
-use Rattle.walk.specs.Reading.{Ahead, on, Read, read, wrong, cellOf, fit, tagOf, placeOf, ahead, become, same, turned, without, then, follow, taken}
-use Rattle.walk.specs.Good.{Single, Fits, Good}
+use Rattle.visits.specs.Reading.{Ahead, on, Read, read, wrong, cellOf, fit, tagOf, placeOf, ahead, become, same, turned, without, then, follow, taken}
+use Rattle.visits.specs.Good.{Single, Fits, Good}
 use Rattle.walk.proofs.Parts.{Goes, seconds-long, second-node, second-is, total-is, firsts-is}
 use Rattle.walk.proofs.Words.{place-in, word-at}
 use Rattle.walk.proofs.Back.{shifted, shifted-none, shifted-more, shifted-long, no-shift, back}

@@ -27,12 +27,12 @@ use Rattle.grammar.specs.Node.{Node, below, nats, pool, shift, or, cons, dep, e
 use Rattle.grammar.specs.Rows.{few, seconds, total}
 use Rattle.grammar.specs.Rows.{count as countOf}
 use Rattle.grammar.proofs.Runs.{every-at}
-use Rattle.walk.specs.Grammar.{Grammar}
-use Rattle.walk.specs.Visit.{secondsOf, tagged, stepOf, visit}
-use Rattle.walk.specs.Good.{Single, Seconds, Fits, Good}
-use Rattle.walk.specs.declared.step.Step.{Step}
-use Rattle.walk.specs.declared.step.Step.the-variants.{Cell, Pass, Plus, Tag, Two}
-use Rattle.walk.proofs.Seconds.{seconds-firsts, seconds-size, seconds-second}
+use Rattle.visits.specs.Grammar.{Grammar}
+use Rattle.visits.specs.Visit.{secondsOf, tagged, stepOf, visit}
+use Rattle.visits.specs.Good.{Single, Seconds, Fits, Good}
+use Rattle.visits.specs.declared.step.Step.{Step}
+use Rattle.visits.specs.declared.step.Step.the-variants.{Cell, Pass, Plus, Tag, Two}
+use Rattle.visits.proofs.Seconds.{seconds-firsts, seconds-size, seconds-second}
 
 pub record Goes (g : Grammar) (count i n : ℕ) : Type 0 where
   pub node : i < count

@@ -10,13 +10,13 @@ use Prim.Native.Nat.{ℕ, zero, suc, _+_, _≤_, _<_}
 use native.Mathlib.Nat.{not-suc-le-zero, le-of-suc-le-suc}
 use native.Mathlib.Omega.{arith}
 use lib.ListN.{length, length-append}
-use Rattle.walk.specs.Grammar.{Grammar}
-use Rattle.walk.specs.Visit.{visit}
+use Rattle.visits.specs.Grammar.{Grammar}
+use Rattle.visits.specs.Visit.{visit}
 use Rattle.walk.specs.Walk.{Event, cell, deep, raised, shown, walk, depth}
 use Rattle.walk.specs.Room.{Case}
 use Rattle.walk.specs.Trail.{Mark, visited, met, marks, trail, Within}
-use Rattle.walk.specs.declared.step.Step.{Step}
-use Rattle.walk.specs.declared.step.Step.the-variants.{Cell, Pass, Plus, Tag, Two}
+use Rattle.visits.specs.declared.step.Step.{Step}
+use Rattle.visits.specs.declared.step.Step.the-variants.{Cell, Pass, Plus, Tag, Two}
 
 raised-long : (k : ℕ) (es : List Event) → length (raised k es) ≡ length es
 unfolding raised

@@ -21,15 +21,15 @@ use Rattle.grammar.specs.Node.{nodeOf}
 use Rattle.grammar.specs.Plan.{sizeIn}
 use Rattle.grammar.proofs.ByKind.{by-kind}
 use Rattle.graph.proofs.Marks.{same?}
-use Rattle.walk.specs.Grammar.{planned}
-use Rattle.walk.specs.Visit.{tagged, stepOf, visit}
+use Rattle.visits.specs.Grammar.{planned}
+use Rattle.visits.specs.Visit.{tagged, stepOf, visit}
 use Rattle.walk.specs.Walk.{Event, cell, raised, shown, walk, depth}
 use Rattle.walk.specs.Room.{most}
-use Rattle.walk.specs.Good.{Visits}
+use Rattle.visits.specs.Good.{Visits}
 use Rattle.walk.specs.Sure.{Few, Sure, Bounded, wide, Width, widthAt, Widths}
-use Rattle.walk.specs.declared.step.Step.{Step}
-use Rattle.walk.specs.declared.step.Step.the-variants.{Cell, Pass, Plus, Tag, Two}
-use Rattle.walk.proofs.Nodes.{kindAt, aAt, bAt}
+use Rattle.visits.specs.declared.step.Step.{Step}
+use Rattle.visits.specs.declared.step.Step.the-variants.{Cell, Pass, Plus, Tag, Two}
+use Rattle.visits.proofs.Nodes.{kindAt, aAt, bAt}
 use Rattle.walk.proofs.Walks.{walk-shows}
 use Rattle.walk.proofs.Next.{Next, next-of}
 

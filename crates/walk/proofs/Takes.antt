@@ -25,16 +25,16 @@ use Rattle.numbers.proofs.cons.Laws as Conses
 use Rattle.numbers.proofs.except.Laws as Excepts
 use Rattle.grammar.specs.declared.refusal.Refusal.{Refusal}
 use Rattle.grammar.specs.declared.refusal.Refusal.the-variants.{TooDeep}
-use Rattle.walk.specs.Grammar.{Grammar, planned, nodeIn}
-use Rattle.walk.specs.Visit.{secondsOf}
-use Rattle.walk.specs.Reading.{both, chosen, Read, read, wrong, ahead, become, then, follow, taken}
-use Rattle.walk.specs.Look.{seen}
-use Rattle.walk.specs.Got.{becomes, SmallHow, gotOf, grownOf, biggerOf, joinedBy, TookBy, Took}
-use Rattle.walk.specs.declared.look.Next.{Next}
-use Rattle.walk.specs.declared.number.How.{How}
-use Rattle.walk.specs.declared.number.How.the-variants.{Same, Turned, Without}
-use Rattle.walk.specs.declared.number.Got.{Got}
-use Rattle.walk.specs.declared.number.Got.the-variants.{Number, Big, Wrong}
+use Rattle.visits.specs.Grammar.{Grammar, planned, nodeIn}
+use Rattle.visits.specs.Visit.{secondsOf}
+use Rattle.visits.specs.Reading.{both, chosen, Read, read, wrong, ahead, become, then, follow, taken}
+use Rattle.visits.specs.Look.{seen}
+use Rattle.visits.specs.Got.{becomes, SmallHow, gotOf, grownOf, biggerOf, joinedBy, TookBy, Took}
+use Rattle.visits.specs.declared.look.Next.{Next}
+use Rattle.visits.specs.declared.number.How.{How}
+use Rattle.visits.specs.declared.number.How.the-variants.{Same, Turned, Without}
+use Rattle.visits.specs.declared.number.Got.{Got}
+use Rattle.visits.specs.declared.number.Got.the-variants.{Number, Big, Wrong}
 
 -- ---- a visit
 pub taken-deep : (g : Grammar) (i off q : ℕ) (cs : List ℕ) {d : ℕ} → d ≡ 0 → taken g d i off q cs ≡ wrong TooDeep

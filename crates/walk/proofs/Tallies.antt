@@ -23,17 +23,17 @@ use Rattle.numbers.specs.declared.or.Part.the-variants.{First, Second}
 use Rattle.grammar.specs.Node.{nodeOf}
 use Rattle.grammar.specs.Plan.{sizeIn}
 use Rattle.grammar.proofs.ByKind.{by-kind}
-use Rattle.walk.specs.Grammar.{planned}
-use Rattle.walk.specs.Visit.{stepOf, visit, secondsOf}
+use Rattle.visits.specs.Grammar.{planned}
+use Rattle.visits.specs.Visit.{stepOf, visit, secondsOf}
 use Rattle.walk.specs.Walk.{cell, shown, walk}
 use Rattle.walk.specs.Room.{RoomLeft, TooDeep, NoRoom, tallied, most}
 use Rattle.walk.specs.Laid.{leftOf}
-use Rattle.walk.specs.Good.{Visits, firsts}
-use Rattle.walk.specs.declared.step.Step.{Step}
-use Rattle.walk.specs.declared.step.Step.the-variants.{Cell, Pass, Plus, Tag, Two}
-use Rattle.walk.proofs.Nodes.{kindAt, aAt, bAt}
-use Rattle.walk.proofs.Visits.{dep-ready}
-use Rattle.walk.proofs.Deps.{chosen-two}
+use Rattle.visits.specs.Good.{Visits, firsts}
+use Rattle.visits.specs.declared.step.Step.{Step}
+use Rattle.visits.specs.declared.step.Step.the-variants.{Cell, Pass, Plus, Tag, Two}
+use Rattle.visits.proofs.Nodes.{kindAt, aAt, bAt}
+use Rattle.visits.proofs.Visits.{dep-ready}
+use Rattle.visits.proofs.Deps.{chosen-two}
 use Rattle.walk.proofs.Next.{Next, Next1, next-of}
 use Rattle.walk.proofs.Lays.{word-left, word-stops, tally-count}
 use Rattle.walk.proofs.Walks.{walk-shows, walk-deep, tallied-raised, tallied-full, tallied-cell, two-left, two-deep, two-full}

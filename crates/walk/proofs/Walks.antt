@@ -10,11 +10,11 @@ use Prim.Native.Nat.{ℕ, zero, suc, _+_, _*_, _-_, _^_, _≤_}
 use native.Mathlib.Numerals.{sub-one}
 use native.Mathlib.Omega.{arith}
 use Rattle.grammar.specs.Node.{Node, below, nats, pool, shift, or, cons, dep, except, fix, again, unknown}
-use Rattle.walk.specs.Grammar.{Grammar}
-use Rattle.walk.specs.Visit.{stepOf, visit}
+use Rattle.visits.specs.Grammar.{Grammar}
+use Rattle.visits.specs.Visit.{stepOf, visit}
 use Rattle.walk.specs.Walk.{Event, cell, deep, raised, shown, walk, cells}
-use Rattle.walk.specs.Good.{Single, Fits, Good}
-use Rattle.walk.specs.declared.step.Step.{Step}
+use Rattle.visits.specs.Good.{Single, Fits, Good}
+use Rattle.visits.specs.declared.step.Step.{Step}
 use Rattle.walk.specs.Room.{RoomLeft, Left, TooDeep, NoRoom, tallied}
 use Rattle.walk.proofs.Parts.{Goes}
 

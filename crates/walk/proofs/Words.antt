@@ -15,7 +15,7 @@ use Rattle.numbers.specs.Pick.{pick}
 use Rattle.graph.specs.Ways.{has}
 use Rattle.grammar.specs.Rows.{different}
 use Rattle.grammar.proofs.Tests.{and-left, and-right}
-use Rattle.walk.specs.Reading.{placeOf}
+use Rattle.visits.specs.Reading.{placeOf}
 
 pub place-in : (c : ℕ) (ws : List ℕ) → has c ws ≡ true → placeOf c ws < length ws
 unfolding has placeOf

@@ -5,11 +5,11 @@
 use mathlib.Core.Path.{_≡_}
 use mathlib.Core.List.{List}
 use Prim.Native.Nat.{ℕ, _≤_, _<_}
-use Rattle.walk.specs.Grammar.{planned}
+use Rattle.visits.specs.Grammar.{planned}
 use Rattle.walk.specs.Walk.{walk}
-use Rattle.walk.specs.Reading.{taken}
-use Rattle.walk.specs.Good.{Walkable, Visits}
-use Rattle.walk.specs.Look.{Reading}
+use Rattle.visits.specs.Reading.{taken}
+use Rattle.visits.specs.Good.{Walkable, Visits}
+use Rattle.visits.specs.Look.{Reading}
 
 pub record Stays (plan : List ℕ) (i : ℕ) : Type 0 where
   pub pool : List ℕ

@@ -6,10 +6,10 @@ use mathlib.Core.List.{List}
 use Prim.Native.Nat.{ℕ, _*_, _-_, _≤_, _<_}
 use lib.ListN.{getD, drop}
 use Rattle.numbers.specs.Joined.{limit}
-use Rattle.walk.specs.Grammar.{planned}
-use Rattle.walk.specs.Reading.{taken}
-use Rattle.walk.specs.Got.{Took}
-use Rattle.walk.specs.declared.number.Got.{Got}
+use Rattle.visits.specs.Grammar.{planned}
+use Rattle.visits.specs.Reading.{taken}
+use Rattle.visits.specs.Got.{Took}
+use Rattle.visits.specs.declared.number.Got.{Got}
 
 pub record Leaf (plan : List ℕ) (i : ℕ) (cells : List ℕ) (at stop : ℕ) (r : Got) : Type 0 where
   pub is : getD plan (4 * i) 0 < 2 → (p : List ℕ) (d least : ℕ) → (d ≡ 0 → ⊥) → least ≤ limit → Took least (taken (planned plan p) d i 0 (stop - at) (drop at cells)) cells stop r

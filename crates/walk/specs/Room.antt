@@ -8,7 +8,7 @@ use mathlib.Core.Path.{_≡_}
 use mathlib.Core.List.{List, [], _∷_, map}
 use Prim.Native.Nat.{ℕ, zero, suc, _≤_}
 use lib.ListN.{length}
-use Rattle.walk.specs.Grammar.{Grammar}
+use Rattle.visits.specs.Grammar.{Grammar}
 use Rattle.walk.specs.Walk.{Event, cell, deep, walk, depth}
 
 pub data RoomLeft : Type 0 where

@@ -9,10 +9,10 @@ use mathlib.Core.Path.{_≡_}
 use mathlib.Core.List.{List, map}
 use Prim.Native.Nat.{ℕ, suc, _≤_}
 use lib.ListN.{length, getD}
-use Rattle.walk.specs.Grammar.{planned}
+use Rattle.visits.specs.Grammar.{planned}
 use Rattle.walk.specs.Walk.{Event, cell, walk, depth}
 use Rattle.walk.specs.Room.{most}
-use Rattle.walk.specs.Good.{Visits}
+use Rattle.visits.specs.Good.{Visits}
 
 pub record Few (es : List Event) (room : ℕ) : Type 0 where
   pub case : List ℕ

@@ -3,15 +3,15 @@ ghost use mathlib.Core.Path.{_≡_};
 ghost use mathlib.Core.List.{[], _∷_};
 ghost use Prim.Native.Nat.{_+_, _^_, _<_, _≤_, min};
 ghost use lib.ListN.{getD};
-ghost use Rattle.walk.specs.Grammar.{planned};
+ghost use Rattle.visits.specs.Grammar.{planned};
 ghost use Rattle.walk.specs.Walk.{walk, cell};
 ghost use Rattle.walk.specs.Room.{most};
 ghost use Rattle.walk.specs.Laid.{Laid, leftOf, lifted};
-ghost use Rattle.walk.specs.Good.{Visits};
+ghost use Rattle.visits.specs.Good.{Visits};
 use super::follow::follow;
-use super::step::Step;
-use super::step::step_of;
 use grammar::kinds::POOL;
+use visits::step::Step;
+use visits::step::step_of;
 
 // What a walk hands back: what is left of the room after the case; or, from 2^63 on, the first of 13 and
 // 14 in walk order. A word and not an enum: every visit hands one back, and copies of an enum stall.

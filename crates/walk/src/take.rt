@@ -1,26 +1,26 @@
 // Reading: from cells to a number, in one pass.
 ghost use Prim.Native.Nat.{_+_, _-_, _*_, _^_, _<_, _≤_};
 ghost use lib.ListN.{length, drop};
-ghost use Rattle.walk.specs.Grammar.{planned};
-ghost use Rattle.walk.specs.Reading.{taken};
-ghost use Rattle.walk.specs.Got.{Took};
-ghost use Rattle.walk.specs.Look.{Reading};
+ghost use Rattle.visits.specs.Grammar.{planned};
+ghost use Rattle.visits.specs.Reading.{taken};
+ghost use Rattle.visits.specs.Got.{Took};
+ghost use Rattle.visits.specs.Look.{Reading};
 ghost use Rattle.walk.specs.Leaf.{Leaf};
 use super::follow::follow;
-use super::joins::depended;
-use super::joins::paired;
-use super::look::Celled;
-use super::look::Next;
-use super::look::cell_at;
-use super::look::next_of;
-use super::number::Got;
-use super::number::bigger;
-use super::number::got_of;
-use super::number::grown;
 use grammar::kinds::NATS;
 use grammar::kinds::POOL;
 use grammar::refusal::Refusal;
 use numbers::joined::cap;
+use visits::joins::depended;
+use visits::joins::paired;
+use visits::look::Celled;
+use visits::look::Next;
+use visits::look::cell_at;
+use visits::look::next_of;
+use visits::number::Got;
+use visits::number::bigger;
+use visits::number::got_of;
+use visits::number::grown;
 
 // "a number cell not below its count", where no shift takes anything off.
 fn leaf(plan: &[u64], i: usize, cells: &[u64], at: usize, stop: usize) -> Got

@@ -3,14 +3,13 @@
 ghost use mathlib.Core.Path.{_≡_};
 ghost use mathlib.Core.List.{[], _∷_};
 ghost use Prim.Native.Nat.{ℕ, _+_, _^_, _≤_};
-ghost use Rattle.walk.specs.Grammar.{planned};
+ghost use Rattle.visits.specs.Grammar.{planned};
 ghost use Rattle.walk.specs.Walk.{walk, cell};
 ghost use Rattle.walk.specs.Room.{tallied, most};
 ghost use Rattle.walk.specs.Laid.{leftOf};
-ghost use Rattle.walk.specs.Good.{Visits};
+ghost use Rattle.visits.specs.Good.{Visits};
 use super::lay::NO_ROOM;
 use super::lay::TOO_DEEP;
-use super::step::dep_parts;
 use grammar::kinds::CONS;
 use grammar::kinds::DEP;
 use grammar::kinds::EXCEPT;
@@ -19,6 +18,7 @@ use grammar::kinds::OR;
 use grammar::kinds::POOL;
 use grammar::kinds::SHIFT;
 use numbers::or::Part;
+use visits::step::dep_parts;
 
 // One cell of the case, whatever word it is.
 fn one(room: usize) -> usize

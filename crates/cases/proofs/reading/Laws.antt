@@ -16,13 +16,13 @@ use Rattle.grammar.specs.declared.refusal.Refusal.{Refusal}
 use Rattle.grammar.specs.declared.refusal.Refusal.the-variants.{NoSuchStart, NotACase, NumberTooLarge}
 use Rattle.grammar.specs.declared.refusal.Verdict.{Verdict}
 use Rattle.grammar.specs.declared.refusal.Verdict.the-variants.{Accepted, Refused as Refuses}
-use Rattle.walk.specs.Grammar.{planned}
+use Rattle.visits.specs.Grammar.{planned}
 use Rattle.walk.specs.Walk.{depth}
 use Rattle.walk.specs.Room.{most}
-use Rattle.walk.specs.Reading.{Read, taken}
-use Rattle.walk.specs.Got.{Took}
-use Rattle.walk.specs.declared.number.Got.{Got}
-use Rattle.walk.specs.declared.number.Got.the-variants.{Number as Read-number, Big, Wrong}
+use Rattle.visits.specs.Reading.{Read, taken}
+use Rattle.visits.specs.Got.{Took}
+use Rattle.visits.specs.declared.number.Got.{Got}
+use Rattle.visits.specs.declared.number.Got.the-variants.{Number as Read-number, Big, Wrong}
 use Rattle.walk.proofs.Takes.{told}
 use Rattle.checked.specs.Prepared.{Planning, Prepared}
 use Rattle.cases.specs.Read.{found, finds, reads}

@@ -16,7 +16,7 @@ use Rattle.grammar.specs.declared.refusal.Refusal.{Refusal}
 use Rattle.grammar.specs.declared.refusal.Refusal.the-variants.{NoSuchStart}
 use Rattle.grammar.specs.declared.refusal.Verdict.{Verdict}
 use Rattle.grammar.specs.declared.refusal.Verdict.the-variants.{Accepted, Refused as Refuses}
-use Rattle.walk.specs.Grammar.{Grammar, planned}
+use Rattle.visits.specs.Grammar.{Grammar, planned}
 use Rattle.walk.specs.Walk.{walk, cells, depth}
 use Rattle.walk.specs.Sure.{Sure}
 use Rattle.checked.specs.Prepared.{Planning, Prepared}

@@ -15,7 +15,7 @@ use Rattle.grammar.specs.declared.refusal.Refusal.{Refusal}
 use Rattle.grammar.specs.declared.refusal.Refusal.the-variants.{NoSuchStart}
 use Rattle.grammar.specs.declared.refusal.Verdict.{Verdict}
 use Rattle.grammar.specs.declared.refusal.Verdict.the-variants.{Accepted, Refused as Refuses}
-use Rattle.walk.specs.Grammar.{Grammar, planned}
+use Rattle.visits.specs.Grammar.{Grammar, planned}
 use Rattle.checked.specs.Prepared.{Planning, Prepared}
 use Rattle.checked.specs.Item.{front, Stood}
 use Rattle.checked.specs.declared.item.Item.{Item as Standing}

@@ -14,7 +14,7 @@ use Rattle.grammar.specs.declared.refusal.Refusal.{Refusal}
 use Rattle.grammar.specs.declared.refusal.Refusal.the-variants.{NoSuchStart}
 use Rattle.grammar.specs.declared.refusal.Verdict.{Verdict}
 use Rattle.grammar.specs.declared.refusal.Verdict.the-variants.{Accepted, Refused as Refuses}
-use Rattle.walk.specs.Grammar.{planned}
+use Rattle.visits.specs.Grammar.{planned}
 use Rattle.walk.specs.Filled.{over}
 use Rattle.checked.specs.Prepared.{Planning, Prepared}
 use Rattle.checked.specs.Kept.{Kept}

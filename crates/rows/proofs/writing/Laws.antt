@@ -13,7 +13,7 @@ use Rattle.grammar.specs.declared.refusal.Refusal.{Refusal}
 use Rattle.grammar.specs.declared.refusal.Refusal.the-variants.{NoSuchStart}
 use Rattle.grammar.specs.declared.refusal.Verdict.{Verdict}
 use Rattle.grammar.specs.declared.refusal.Verdict.the-variants.{Accepted, Refused as Refuses}
-use Rattle.walk.specs.Grammar.{planned}
+use Rattle.visits.specs.Grammar.{planned}
 use Rattle.checked.specs.Prepared.{Planning, Prepared}
 use Rattle.checked.proofs.Walking.{same-grammar}
 use Rattle.rows.specs.WriteRow.{inTurn, RowOver, writesRowPlanned, writesRow, WroteRow, WroteRowPlanned}

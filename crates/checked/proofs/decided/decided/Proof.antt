@@ -2,7 +2,7 @@
 -- Assumes nothing.
 use borrow.Author.Needs.{needs}
 use native.Mathlib.Omega.{arith}
-use Rattle.walk.proofs.Nodes.{in-plan}
+use Rattle.visits.proofs.Nodes.{in-plan}
 use Rattle.checked.proofs.Fitting.{left-within, decided-12, may, visits-of, decided-walk}
 use Rattle.checked.proofs.decided.decided.Statement.{statement}
 use Rattle.checked.proofs.decided.decided.Tie as tie

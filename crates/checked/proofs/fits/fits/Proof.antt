@@ -2,7 +2,7 @@
 -- Assumes nothing.
 use borrow.Author.Needs.{needs}
 use native.Mathlib.Omega.{arith}
-use Rattle.walk.proofs.Nodes.{in-plan}
+use Rattle.visits.proofs.Nodes.{in-plan}
 use Rattle.checked.proofs.Fitting.{left-within, fits-12, may, visits-of, fits-walk}
 use Rattle.checked.proofs.fits.fits.Statement.{statement}
 use Rattle.checked.proofs.fits.fits.Tie as tie

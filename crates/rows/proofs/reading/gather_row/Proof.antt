@@ -4,7 +4,7 @@ use borrow.Author.Needs.{needs}
 use Prim.Native.Nat.{_-_}
 use native.Mathlib.Omega.{arith}
 use lib.ListN.{length}
-use Rattle.walk.specs.Grammar.{planned}
+use Rattle.visits.specs.Grammar.{planned}
 use Rattle.rows.proofs.Gathering.{stood, Storing, storing-none, same-length, storing-more, storing-full, storing-stops, storing-done}
 use Rattle.rows.proofs.reading.gather_row.Statement.{statement}
 use Rattle.rows.proofs.reading.gather_row.Tie as tie

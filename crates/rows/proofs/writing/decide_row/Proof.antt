@@ -4,7 +4,7 @@ use borrow.Author.Needs.{needs}
 use Prim.Native.Nat.{_-_}
 use native.Mathlib.Omega.{arith}
 use lib.ListN.{length}
-use Rattle.walk.specs.Grammar.{planned}
+use Rattle.visits.specs.Grammar.{planned}
 use Rattle.rows.proofs.Turns.{Tallying, tallying-none, tallying-fits, tallying-more, tallying-stops, tallying-done}
 use Rattle.rows.proofs.writing.decide_row.Statement.{statement}
 use Rattle.rows.proofs.writing.decide_row.Tie as tie

@@ -5,7 +5,7 @@ use mathlib.Core.Path.{refl}
 use Prim.Native.Nat.{_-_}
 use native.Mathlib.Omega.{arith}
 use lib.ListN.{length}
-use Rattle.walk.specs.Grammar.{planned}
+use Rattle.visits.specs.Grammar.{planned}
 use Rattle.rows.proofs.Turns.{Laying, laying-none, laying-long, laying-within, laying-fits, laying-more, laying-stops, laying-done}
 use Rattle.rows.proofs.writing.lay_row.Statement.{statement}
 use Rattle.rows.proofs.writing.lay_row.Tie as tie

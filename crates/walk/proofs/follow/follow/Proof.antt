@@ -1,7 +1,7 @@
 -- `walk::follow::follow` goes on through fixes and agains.
 -- Assumes nothing.
 use native.Mathlib.Omega.{arith}
-use Rattle.walk.proofs.Nodes.{in-plan}
+use Rattle.visits.proofs.Nodes.{in-plan}
 use Rattle.walk.proofs.Follows.{Following, follow-none, follow-more}
 use Rattle.walk.proofs.follow.follow.Statement.{statement}
 use Rattle.walk.proofs.follow.follow.Tie as tie

@@ -6,14 +6,14 @@ use native.Mathlib.Omega.{arith}
 use borrow.Author.Needs.{needs}
 use borrow.Fn.Kinds.{In}
 use borrow.Fn.PlainCycle.{Measures, is, falls, and}
-use Rattle.walk.specs.Grammar.{planned}
+use Rattle.visits.specs.Grammar.{planned}
 use Rattle.walk.specs.Walk.{shown, walk, cells}
 use Rattle.walk.specs.Room.{tallied}
-use Rattle.walk.specs.Good.{Visits}
-use Rattle.walk.specs.declared.step.Step.{Step}
-use Rattle.walk.specs.declared.step.Step.the-variants.{Plus}
+use Rattle.visits.specs.Good.{Visits}
+use Rattle.visits.specs.declared.step.Step.{Step}
+use Rattle.visits.specs.declared.step.Step.the-variants.{Plus}
 use Rattle.walk.proofs.Walks.{walk-shows, walk-deep, One, single-one}
-use Rattle.walk.proofs.Nodes.{in-plan}
+use Rattle.visits.proofs.Nodes.{in-plan}
 use Rattle.walk.proofs.Lays.{word-left, rest-within, laid-deep, two-stops, plus-stops, lift-small, laid-plus, laid-two, reached, leaf-shows}
 use Rattle.walk.proofs.Next.{Next, Next1, next-of, goes-of}
 use Rattle.walk.proofs.lay.lay.Reads as lay
@@ -26,7 +26,7 @@ use Rattle.walk.proofs.follow.follow.Reads as follow
 use Rattle.walk.proofs.lay.lift.Reads as lift
 use Rattle.walk.proofs.lay.place.Reads as place
 use Rattle.walk.proofs.lay.put.Reads as put
-use Rattle.walk.proofs.step.step_of.Reads as step-of
+use Rattle.visits.proofs.step.step_of.Reads as step-of
 use Rattle.walk.proofs.lay.+lay+part.{statement}
 use Rattle.walk.proofs.lay.+lay+part.Tie.{close}
 

@@ -6,7 +6,7 @@ use Prim.Native.Nat.{_+_, _-_, _≤_}
 use native.Mathlib.Omega.{arith}
 use borrow.Author.Tests.{leb-true}
 use Rattle.walk.specs.Sure.{Widths}
-use Rattle.walk.proofs.Nodes.{in-plan}
+use Rattle.visits.proofs.Nodes.{in-plan}
 use Rattle.walk.proofs.Sures.{widths-none, widths-more, sure-by}
 use Rattle.walk.proofs.sure.sure.Statement.{statement}
 use Rattle.walk.proofs.sure.sure.Tie as tie

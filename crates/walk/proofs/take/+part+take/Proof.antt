@@ -10,12 +10,12 @@ use borrow.Fn.Kinds.{In}
 use borrow.Fn.PlainCycle.{Measures, is, falls, and}
 use Rattle.numbers.specs.Size.{Below}
 use Rattle.grammar.specs.Plan.{sizeIn}
-use Rattle.walk.specs.Grammar.{planned}
-use Rattle.walk.specs.Reading.{follow, taken}
-use Rattle.walk.specs.Look.{seen, Reading}
-use Rattle.walk.specs.Got.{DepJoins}
-use Rattle.walk.specs.declared.look.Next.{Next}
-use Rattle.walk.proofs.Nodes.{in-plan}
+use Rattle.visits.specs.Grammar.{planned}
+use Rattle.visits.specs.Reading.{follow, taken}
+use Rattle.visits.specs.Look.{seen, Reading}
+use Rattle.visits.specs.Got.{DepJoins}
+use Rattle.visits.specs.declared.look.Next.{Next}
+use Rattle.visits.proofs.Nodes.{in-plan}
 use Rattle.walk.proofs.Only.{only}
 use Rattle.walk.proofs.Leads.{Leads, leads-of, on-reads, part-reads, small-how}
 use Rattle.walk.proofs.Chosen.{count-is, dep-joins, second-in, second-reads, second-is, chosen-least, none-big}
@@ -28,13 +28,13 @@ use Rattle.walk.proofs.take.leaf.Reads as leaf
 use Rattle.walk.proofs.take.+part+take.Lts-part as part-lts
 use Rattle.walk.proofs.take.+part+take.Lts-take as lts
 use Rattle.numbers.proofs.joined.cap.Reads as cap
-use Rattle.walk.proofs.joins.depended.Reads as depended
-use Rattle.walk.proofs.joins.paired.Reads as paired
+use Rattle.visits.proofs.joins.depended.Reads as depended
+use Rattle.visits.proofs.joins.paired.Reads as paired
 use Rattle.walk.proofs.follow.follow.Reads as followed
-use Rattle.walk.proofs.look.next_of.Reads as next-of
-use Rattle.walk.proofs.number.bigger.Reads as bigger
-use Rattle.walk.proofs.number.got_of.Reads as got-of
-use Rattle.walk.proofs.number.grown.Reads as grown
+use Rattle.visits.proofs.look.next_of.Reads as next-of
+use Rattle.visits.proofs.number.bigger.Reads as bigger
+use Rattle.visits.proofs.number.got_of.Reads as got-of
+use Rattle.visits.proofs.number.grown.Reads as grown
 use Rattle.walk.proofs.take.+part+take.{statement}
 use Rattle.walk.proofs.take.+part+take.Tie.{close}
 

@@ -2,7 +2,7 @@
 -- Assumes nothing.
 use borrow.Author.Needs.{needs}
 use native.Mathlib.Omega.{arith}
-use Rattle.walk.proofs.Looks.{cell-in}
+use Rattle.visits.proofs.Looks.{cell-in}
 use Rattle.walk.proofs.Leaves.{leaf-none, leaf-nats, leaf-below, leaf-large}
 use Rattle.walk.proofs.take.leaf.Statement.{statement}
 use Rattle.walk.proofs.take.leaf.Tie as tie

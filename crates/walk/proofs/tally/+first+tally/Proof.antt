@@ -7,9 +7,9 @@ use borrow.Author.Needs.{needs}
 use borrow.Fn.Kinds.{In}
 use borrow.Fn.PlainCycle.{Measures, is, falls, and}
 use Rattle.walk.specs.Room.{tallied}
-use Rattle.walk.proofs.Nodes.{in-plan, or-a, or-b, cons-a, cons-b, cons-some-a, cons-some-b}
-use Rattle.walk.proofs.Visits.{dep-ready}
-use Rattle.walk.proofs.Deps.{chosen-in}
+use Rattle.visits.proofs.Nodes.{in-plan, or-a, or-b, cons-a, cons-b, cons-some-a, cons-some-b}
+use Rattle.visits.proofs.Visits.{dep-ready}
+use Rattle.visits.proofs.Deps.{chosen-in}
 use Rattle.walk.proofs.Walks.{walk-deep}
 use Rattle.walk.proofs.Follows.{passes}
 use Rattle.walk.proofs.Tallies.{Tallying, tally-none, shift-is, except-is, first-is, second-is, cons-is, dep-is, cell-is, leaf-is, turn-deep, turn-pass, turn-plus, turn-tag, turn-full, turn-cell, turn-first, turn-stops, turn-second}
@@ -22,7 +22,7 @@ use Rattle.walk.proofs.tally.+first+tally.Lts-tally as lts
 use Rattle.numbers.proofs.cons.split.Reads as cons-split
 use Rattle.numbers.proofs.except.split.Reads as except-split
 use Rattle.numbers.proofs.or.split.Reads as or-split
-use Rattle.walk.proofs.step.dep_parts.Reads as dep-parts
+use Rattle.visits.proofs.step.dep_parts.Reads as dep-parts
 use Rattle.walk.proofs.tally.one.Reads as one
 use Rattle.walk.proofs.tally.+first+tally.{statement}
 use Rattle.walk.proofs.tally.+first+tally.Tie.{close}

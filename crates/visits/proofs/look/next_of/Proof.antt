@@ -1,0 +1,43 @@
+-- `visits::look::next_of` is what a visit finds before its parts, by its kind.
+-- Assumes nothing.
+use borrow.Author.Needs.{needs}
+use native.Mathlib.Omega.{arith}
+use Rattle.visits.specs.Reading.{ahead}
+use Rattle.visits.proofs.Nodes.{in-plan, pool-run, shift-k, or-a, or-b}
+use Rattle.grammar.specs.Node.{nodeOf}
+use Rattle.visits.proofs.Looks.{unknown-ahead}
+use Rattle.visits.proofs.look.next_of.Statement.{statement}
+use Rattle.visits.proofs.look.next_of.Tie as tie
+
+pub next-of-spec : {M : Type 1} → statement M
+unfolding ahead nodeOf
+next-of-spec =
+    tie.close
+    (tie.spec
+    (λ c. omega (arith, in-plan (c .before .before .before .pre .0 .walks) (c .before .before .before .pre .0 .node)))
+    (λ c. omega (arith, in-plan (c .before .before .before .pre .0 .walks) (c .before .before .before .pre .0 .node)))
+    (λ c. omega (arith, in-plan (c .before .before .before .before .pre .0 .walks) (c .before .before .before .before .pre .0 .node)))
+    (λ c. omega (arith, in-plan (c .before .before .before .before .pre .0 .walks) (c .before .before .before .before .pre .0 .node)))
+    (λ c. omega (arith, in-plan (c .before .before .before .before .pre .0 .walks) (c .before .before .before .before .pre .0 .node)))
+    (λ c. omega (arith, in-plan (c .before .before .before .before .pre .0 .walks) (c .before .before .before .before .pre .0 .node)))
+    (λ c. omega (arith, in-plan (c .before .before .before .before .before .pre .0 .walks) (c .before .before .before .before .before .pre .0 .node)))
+    (λ c. omega (arith, in-plan (c .before .before .before .before .before .pre .0 .walks) (c .before .before .before .before .before .pre .0 .node)))
+    (λ c. omega (arith, in-plan (c .before .before .before .before .before .pre .0 .walks) (c .before .before .before .before .before .pre .0 .node)))
+    (λ c. omega (arith, in-plan (c .before .before .before .before .before .pre .0 .walks) (c .before .before .before .before .before .pre .0 .node)))
+    (λ c. omega (arith, in-plan (c .before .before .before .before .before .before .pre .0 .walks) (c .before .before .before .before .before .before .pre .0 .node)))
+    (λ c κs. search needs)
+    (λ c κs. search needs)
+    (λ c κs. pool-run (c .before .before .before .before .before .before .before .pre .0 .walks) (c .before .before .before .before .before .before .before .pre .0 .node) (c .match .keys3))
+    (λ c. omega (arith, shift-k (c .before .before .before .before .before .before .before .pre .0 .walks) (c .before .before .before .before .before .before .before .pre .0 .node) (c .match .keys4), c .before .before .before .before .before .before .before .pre .1))
+    (λ c κs. (or-a (c .before .before .before .before .before .before .before .pre .0 .walks) (c .before .before .before .before .before .before .before .pre .0 .node) (c .match .keys5), or-b (c .before .before .before .before .before .before .before .pre .0 .walks) (c .before .before .before .before .before .before .before .pre .0 .node) (c .match .keys5)))
+    (λ c. rw (c .before .match .keys1) (c .below-next .ensures _ _))
+    (λ c. rw (c .before .match .keys2) (c .nats-next .ensures _ _))
+    (λ c. rw (c .before .match .keys3) (c .pool-next .ensures _ 0))
+    (λ c. rw (c .match .keys4))
+    (λ c. rw (c .before .match .keys5) (c .or-next .ensures _ 0))
+    (λ c. rw (c .match .keys6))
+    (λ c. rw (c .match .keys7))
+    (λ c. rw (c .match .keys8))
+    (λ c. rw (c .match .keys9))
+    (λ c. rw (c .match .keys10))
+    (λ c. unknown-ahead _ _ _ _ _ _ _ _ (c .match .rest .0 .0 .0 .0 .0 .0 .0 .0 .0 .1) (c .match .rest .0 .0 .0 .0 .0 .0 .0 .0 .1) (c .match .rest .0 .0 .0 .0 .0 .0 .0 .1) (c .match .rest .0 .0 .0 .0 .0 .0 .1) (c .match .rest .0 .0 .0 .0 .0 .1) (c .match .rest .0 .0 .0 .0 .1) (c .match .rest .0 .0 .0 .1) (c .match .rest .0 .0 .1) (c .match .rest .0 .1) (c .match .rest .1)))

@@ -1,0 +1,29 @@
+-- `visits::look::place_of` looks for a word in a run.
+-- Assumes nothing.
+use Prim.Native.Nat.{_-_}
+use native.Mathlib.Omega.{arith}
+use Rattle.visits.proofs.Looks.{Placing, placing-none, placing-found, placing-more, placing-end}
+use Rattle.visits.proofs.look.place_of.Statement.{statement}
+use Rattle.visits.proofs.look.place_of.Tie as tie
+
+abbrev Inv-loop : tie.InvT-loop
+Inv-loop pool at count c k₀ k = Placing pool at count c k
+
+abbrev μ-loop : tie.MeasureT-loop
+μ-loop pool at count c k₀ k = count - k
+
+pub place-of-spec : {M : Type 1} → statement M
+place-of-spec =
+    tie.close
+    (tie.spec
+    Inv-loop
+    μ-loop
+    (λ c. placing-none)
+    (λ c. omega arith)
+    (λ c. omega arith)
+    (λ c. omega arith)
+    (λ c. search placing-found)
+    (λ c. omega arith)
+    (λ c. omega arith)
+    (λ c. search placing-more)
+    (λ c. search placing-end))
