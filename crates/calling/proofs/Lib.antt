@@ -5,3 +5,4 @@ mod Lines
 mod Words
 mod Answers
 mod Input
+mod Worked

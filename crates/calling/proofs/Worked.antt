@@ -1,0 +1,73 @@
+-- Worked prints of calls, computed: what each text prints, beside what it must print. The tables are 01's L and a table of one below 2.
+--   prints, worked    the list and the theorem
+-- Assumes nothing.
+use mathlib.Core.Path.{_≡_, refl}
+use mathlib.Core.List.{List, [], _∷_, map}
+use Prim.Native.Nat.{ℕ}
+use Prim.Native.String.{String}
+use Rattle.numbers.specs.Size.{plus, times, less}
+use Rattle.numbers.specs.Root.{rootBy, root}
+use Rattle.numbers.specs.Or
+use Rattle.numbers.specs.Cons
+use Rattle.numbers.specs.Dep.{inTurn}
+use Rattle.numbers.specs.Dep
+use Rattle.numbers.specs.Except
+use Rattle.graph.specs.Ways.{has, via}
+use Rattle.graph.specs.Lowest.{lowest}
+use Rattle.grammar.specs.Refusals.{numberOf}
+use Rattle.grammar.specs.Node.{nodeOf, usesA, usesB}
+use Rattle.grammar.specs.Rows.{row, different, every, total, belowRow, natsRow, poolRow, shiftRow, orRow, consRow, secondsRow, further, depRow, exceptRow, fixRow, againRow, rowOf, rowAt}
+use Rattle.grammar.specs.Sizes.{onward, scan, sizes}
+use Rattle.grammar.specs.Steps.{steps}
+use Rattle.grammar.specs.Verdict.{leads, unguarded, exceptOnCycle, cycles, settled, verdict}
+use Rattle.visits.specs.Visit.{secondsOf, stepOf}
+use Rattle.visits.specs.Reading.{cellOf, placeOf, ahead, become, follow, taken}
+use Rattle.walk.specs.Walk.{raised, shown, walk, cells}
+use Rattle.walk.specs.Room.{tallied}
+use Rattle.checked.specs.Fits.{fitted}
+use Rattle.checked.specs.Item.{frontOf}
+use Rattle.cases.specs.Write.{walks, writes}
+use Rattle.cases.specs.Read.{found, finds, reads}
+use Rattle.rows.specs.WriteRow.{writesRowPlanned, writesRow}
+use Rattle.rows.specs.WriteRow as Written
+use Rattle.rows.specs.ReadRow.{gather, readsRowPlanned, readsRow}
+use Rattle.rows.specs.Reader.{next, nextPlanned, nextOf}
+use Rattle.lines.specs.Ascii.{bytes}
+use Rattle.lines.specs.Numeral.{run, valueFrom, wellFormed, numeral}
+use Rattle.lines.specs.Decimal.{decimalBy, decimal}
+use Rattle.lines.specs.Line.{ended, words, numberOf as numberOfWord, numbersOf, lineAt}
+use Rattle.pages.specs.Texts.{unreadableText, numberText, numberLine, itemText, refusedText, refusedLine, refusedItem, itemsText, spaced, cellsText}
+use Rattle.calling.specs.Line.{readable, wordSize, same}
+use Rattle.calling.specs.Calls.{checkText, readText, writeText, rowText, asksBy, asksText, caseText, wayText, callOf, callText, lineText}
+use Rattle.calling.specs.Input.{lineSize, after, lineOf, tableAt, saidAt, nextAt, nextKnown, printedBy, printed}
+
+data Print : Type 0 where
+  prints-as : String → String → Print
+
+abbrev asked : Print → List ℕ
+asked (prints-as text print) = printed (bytes text)
+
+abbrev expected : Print → List ℕ
+expected (prints-as text print) = bytes print
+
+abbrev prints : List Print
+prints =
+    prints-as "table\n0 1 0 1 0 0 9 5 0 5 1 2 4 0 3 8 4 0\n\ncheck\nwrite 5 9 43\nread 5 1 6 0 0\n" "accepted\n4 cells: 1 6 0 0\nnumber 43\n"
+    ∷ prints-as "table\n0 1 0 1 0 0 9 5 0 5 1 2 4 0 3 8 4 0\n\nwrite-row 5 10 1 0 3\nread-row 5 3 1 0 0 0 0 0 1 1 0 0\n" "3 items, 10 cells: 1 0 0 0 0 0 1 1 0 0\n3 items, 10 cells: 1 0 3\n"
+    ∷ prints-as "table\n0 1 0 1 0 0 9 5 0 5 1 2 4 0 3 8 4 0\n\nreader 5 1 0 0 0 0 0 1 1 0 0\nreader 5 0 0 1\n"
+    "number 1, 4 cells\nnumber 0, 2 cells\nnumber 3, 4 cells\nend\nnumber 0, 2 cells\nrefused 15 at 0\n"
+    ∷ prints-as "table\n0 2 0\n\nwrite 0 0 1\nwrite 0 1 2\nread 0 2\nread 0\nwrite 1 1 0\n" "refused 14 at 0\nrefused 12 at 0\nrefused 15 at 0\nrefused 15 at 0\nrefused 11 at 0\n"
+    ∷ prints-as "table\n0 2 0\n\nwrite-row 0 1 1 1\nread-row 0 1 1 1\nread-row 0 2 1 2\nwrite-row 0 0\nreader 0\n"
+    "refused 14 at 0 item 1\nrefused 14 at 0 item 1\nrefused 15 at 0 item 1\n0 items, 0 cells:\nend\n"
+    ∷ prints-as "table\n1 0 0 0 0 0\n\ncheck\nread 0 7\nwrite-row 0 2 7\n" "refused 5 at 1\nrefused 5 at 1\nrefused 5 at 1 item 0\n"
+    ∷ prints-as "check\ntable\n0 2 0\n\ncheck \ncheck 1\nwrite 0 1\nwrite 0 1 1 1\nwrite 0 70001 1\nread\nreads 0 1\n\n"
+    "unreadable\nunreadable\nunreadable\nunreadable\nunreadable\nunreadable\nunreadable\nunreadable\nunreadable\n"
+    ∷ prints-as "table\n0 02 0\n\ncheck\ntable\n2 0 1\n7\nread 0 7\n" "unreadable\nunreadable\nnumber 0\n"
+    ∷ prints-as "table\n\n\ncheck\ntable\n" "refused 1 at 0\nunreadable\n"
+    ∷ prints-as "check" "unreadable\n"
+    ∷ prints-as "" ""
+    ∷ []
+
+worked : map asked prints ≡ map expected prints
+unfolding plus times less rootBy root Or.split Or.join Cons.split Cons.join inTurn Dep.split Dep.join Dep.total Except.split Except.join has via lowest numberOf nodeOf usesA usesB row different every total belowRow natsRow poolRow shiftRow orRow consRow secondsRow further depRow exceptRow fixRow againRow rowOf rowAt onward scan sizes steps leads unguarded exceptOnCycle cycles settled verdict secondsOf stepOf cellOf placeOf ahead become follow taken raised shown walk cells tallied fitted frontOf walks writes found finds reads writesRowPlanned writesRow Written.inTurn Written.rowOf gather readsRowPlanned readsRow next nextPlanned nextOf run valueFrom wellFormed numeral decimalBy decimal ended words numberOfWord numbersOf lineAt unreadableText numberText numberLine itemText refusedText refusedLine refusedItem itemsText spaced cellsText readable wordSize same checkText readText writeText rowText asksBy asksText caseText wayText callOf callText lineText lineSize after lineOf tableAt saidAt nextAt nextKnown printedBy printed
+worked = refl
