@@ -38,7 +38,7 @@ use Rattle.lines.specs.Decimal.{decimalBy, decimal}
 use Rattle.lines.specs.Line.{ended, words, numberOf as numberOfWord, numbersOf, lineAt}
 use Rattle.pages.specs.Texts.{unreadableText, numberText, numberLine, itemText, refusedText, refusedLine, refusedItem, itemsText, spaced, cellsText}
 use Rattle.calling.specs.Line.{readable, wordSize, same}
-use Rattle.calling.specs.Calls.{checkText, readText, writeText, rowText, asksBy, asksText, caseText, wayText, callOf, callText, lineText}
+use Rattle.calling.specs.Calls.{checkText, readText, writeText, rowText, asksBy, asksText, caseText, askText, wayText, callOf, callText, lineText}
 use Rattle.calling.specs.Input.{lineSize, after, lineOf, tableAt, saidAt, nextAt, nextKnown, printedBy, printed}
 
 data Print : Type 0 where
@@ -69,5 +69,5 @@ prints =
     ∷ []
 
 worked : map asked prints ≡ map expected prints
-unfolding plus times less rootBy root Or.split Or.join Cons.split Cons.join inTurn Dep.split Dep.join Dep.total Except.split Except.join has via lowest numberOf nodeOf usesA usesB row different every total belowRow natsRow poolRow shiftRow orRow consRow secondsRow further depRow exceptRow fixRow againRow rowOf rowAt onward scan sizes steps leads unguarded exceptOnCycle cycles settled verdict secondsOf stepOf cellOf placeOf ahead become follow taken raised shown walk cells tallied fitted frontOf walks writes found finds reads writesRowPlanned writesRow Written.inTurn Written.rowOf gather readsRowPlanned readsRow next nextPlanned nextOf run valueFrom wellFormed numeral decimalBy decimal ended words numberOfWord numbersOf lineAt unreadableText numberText numberLine itemText refusedText refusedLine refusedItem itemsText spaced cellsText readable wordSize same checkText readText writeText rowText asksBy asksText caseText wayText callOf callText lineText lineSize after lineOf tableAt saidAt nextAt nextKnown printedBy printed
+unfolding plus times less rootBy root Or.split Or.join Cons.split Cons.join inTurn Dep.split Dep.join Dep.total Except.split Except.join has via lowest numberOf nodeOf usesA usesB row different every total belowRow natsRow poolRow shiftRow orRow consRow secondsRow further depRow exceptRow fixRow againRow rowOf rowAt onward scan sizes steps leads unguarded exceptOnCycle cycles settled verdict secondsOf stepOf cellOf placeOf ahead become follow taken raised shown walk cells tallied fitted frontOf walks writes found finds reads writesRowPlanned writesRow Written.inTurn Written.rowOf gather readsRowPlanned readsRow next nextPlanned nextOf run valueFrom wellFormed numeral decimalBy decimal ended words numberOfWord numbersOf lineAt unreadableText numberText numberLine itemText refusedText refusedLine refusedItem itemsText spaced cellsText readable wordSize same checkText readText writeText rowText asksBy asksText caseText askText wayText callOf callText lineText lineSize after lineOf tableAt saidAt nextAt nextKnown printedBy printed
 worked = refl

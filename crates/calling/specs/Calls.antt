@@ -2,7 +2,7 @@
 --   checkText, readText, writeText, rowText    of an answer, and of the words that the call wrote
 --   asksText                                   of a reader: "asks again and again"
 --   withCells, withBuffer                      of a call with its fields
---   caseText, wayText                          of `write`, `write-row` and `read-row`
+--   caseText, askText, wayText                 of `write`, of `read` and `reader`, and of `write-row` and `read-row`
 --   callOf, callText                           of a call by its word, with the rest of its line
 --   lineText                                   of a whole line
 -- Assumes nothing.
@@ -34,6 +34,8 @@ use Rattle.rows.specs.declared.reader.Next.the-variants.{Item, End, Refused as 
 use Rattle.pages.specs.Texts.{unreadableText, numberLine, itemText, refusedLine, refusedItem, itemsText, cellsText}
 use Rattle.calling.specs.Asked.{mostRow, mostRoom, fieldsOf}
 use Rattle.calling.specs.Line.{same, wordSize}
+use Rattle.calling.specs.declared.cells.Ask.{Ask}
+use Rattle.calling.specs.declared.cells.Ask.the-variants.{Case, Items}
 use Rattle.calling.specs.declared.row.Way.{Way}
 use Rattle.calling.specs.declared.row.Way.the-variants.{Write as Writes, Read as Reads}
 use Rattle.calling.specs.declared.calls.Call.{Call}
@@ -102,6 +104,11 @@ callOf word =
 unfoldable pub caseText : List ℕ → List ℕ → ℕ → ℕ → ℕ → List ℕ
 caseText t p i room n = writeText (cells (walk (grammarOf t p) depth i n)) (writes t p i n room)
 
+-- `read` and a reader
+unfoldable pub askText : Ask → List ℕ → List ℕ → ℕ → List ℕ → List ℕ
+askText Case t p i cs = readText (reads t p i cs)
+askText Items t p i cs = asksText t p i cs
+
 -- the two calls on rows
 unfoldable pub wayText : Way → List ℕ → List ℕ → ℕ → ℕ → List ℕ → List ℕ
 wayText Writes t p i room ns = rowText (rowOf (grammarOf t p) i ns) (writesRow t p i room ns)
@@ -111,10 +118,10 @@ wayText Reads t p i room cs = rowText (gotten (gather (grammarOf t p) i room cs)
 unfoldable pub callText : List ℕ → List ℕ → Call → List ℕ → List ℕ
 callText t p Check rest = cond (same rest (bytes "\n")) (checkText (verdict t p)) unreadableText
 callText t p Write rest = withBuffer (λ i room. alone (caseText t p i room)) (fieldsOf rest)
-callText t p Read rest = withCells (λ i cs. readText (reads t p i cs)) (fieldsOf rest)
+callText t p Read rest = withCells (askText Case t p) (fieldsOf rest)
 callText t p WriteRow rest = withBuffer (wayText Writes t p) (fieldsOf rest)
 callText t p ReadRow rest = withBuffer (wayText Reads t p) (fieldsOf rest)
-callText t p Reader rest = withCells (asksText t p) (fieldsOf rest)
+callText t p Reader rest = withCells (askText Items t p) (fieldsOf rest)
 callText t p Unknown rest = unreadableText
 
 -- the table of the last `table`, and its pool, if they could be read

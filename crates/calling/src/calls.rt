@@ -6,12 +6,12 @@ ghost use lib.ListN.{length};
 ghost use Rattle.pages.specs.Page.{Puts};
 ghost use Rattle.calling.specs.Calls.{callOf, callText, lineText};
 ghost use Rattle.calling.specs.State.{knownOf};
+use super::cells;
+use super::cells::Ask;
 use super::check;
 use super::line::MOST_FIELDS;
 use super::line::same;
 use super::line::word_size;
-use super::read;
-use super::reader;
 use super::row;
 use super::row::Way;
 use super::state::State;
@@ -102,10 +102,10 @@ fn answer_call(
     match call {
         Call::Check => check::answer(rest, table, pool, page, used),
         Call::Write => write::answer(rest, table, pool, fields, buffer, page, used),
-        Call::Read => read::answer(rest, table, pool, fields, page, used),
+        Call::Read => cells::answer(Ask::Case, rest, table, pool, fields, page, used),
         Call::WriteRow => row::answer(Way::Write, rest, table, pool, fields, buffer, page, used),
         Call::ReadRow => row::answer(Way::Read, rest, table, pool, fields, buffer, page, used),
-        Call::Reader => reader::answer(rest, table, pool, fields, page, used),
+        Call::Reader => cells::answer(Ask::Items, rest, table, pool, fields, page, used),
         Call::Unknown => unreadable(page, used),
     }
 }

@@ -2,10 +2,9 @@
 // decided here: words are lent, a call is made, and what came back is printed.
 mod asked;
 mod calls;
+mod cells;
 mod check;
 mod line;
-mod read;
-mod reader;
 mod row;
 mod state;
 mod write;

@@ -1,19 +1,16 @@
--- `calling::read::call` prints what `read` answers.
+-- `calling::cells::read` prints what `read` answers.
 -- Assumes nothing.
 use borrow.Author.Needs.{needs}
 use Rattle.calling.specs.Calls.{readText}
 use Rattle.calling.proofs.Answers.{told, read-text}
-use Rattle.calling.proofs.read.call.Statement.{statement}
-use Rattle.calling.proofs.read.call.Tie as tie
+use Rattle.calling.proofs.cells.read.Statement.{statement}
+use Rattle.calling.proofs.cells.read.Tie as tie
 
-pub call-spec : {M : Type 1} → statement M
+pub read-spec : {M : Type 1} → statement M
 unfolding readText
-call-spec =
+read-spec =
     tie.close
     (tie.spec
-    (λ c. search needs)
-    (λ c. search needs)
-    (λ c. search needs)
     (λ c κs. search needs)
     (λ c. search needs)
     (λ c κs. search needs)

@@ -1,17 +1,15 @@
--- `calling::read::answer` hands on the fields that are there.
+-- `calling::cells::answer` hands on the fields that are there.
 -- Assumes nothing.
 use borrow.Author.Needs.{needs}
 use mathlib.Core.Path.{refl}
-use Rattle.calling.specs.Calls.{callText}
 use native.Mathlib.Omega.{arith}
 use Rattle.calling.proofs.Taking.{taking}
 use Rattle.calling.proofs.Fields.{cells-none, cells-text}
 use Rattle.calling.proofs.Answers.{told}
-use Rattle.calling.proofs.read.answer.Statement.{statement}
-use Rattle.calling.proofs.read.answer.Tie as tie
+use Rattle.calling.proofs.cells.answer.Statement.{statement}
+use Rattle.calling.proofs.cells.answer.Tie as tie
 
 pub answer-spec : {M : Type 1} → statement M
-unfolding callText
 answer-spec =
     tie.close
     (tie.spec
@@ -22,4 +20,4 @@ answer-spec =
     (λ c. told (cells-none _ (c .before .before .before .before .take .ensures) (c .before .before .enum-told .given .1)) (c .unreadable .ensures))
     (λ c. search needs)
     (λ c κs. let t = taking (omega arith) (c .before .before .before .before .before .before .before .take .ensures) (c .before .before .before .before .before .count .given .1) in (omega (arith, t .lo, t .size), omega (arith, t .hi, t .size)))
-    (λ c. told (cells-text _ (c .before .before .before .before .before .before .before .before .take .ensures) (c .before .before .before .before .before .before .count .given .1) refl) (c .call .ensures)))
+    (λ c. told (cells-text _ (c .before .before .before .before .before .before .before .before .take .ensures) (c .before .before .before .before .before .before .count .given .1) refl) (c .lend .ensures)))

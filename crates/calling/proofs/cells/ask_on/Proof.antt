@@ -1,11 +1,11 @@
--- `calling::reader::ask_on` ends: each item moves the place on, and within the row.
+-- `calling::cells::ask_on` ends: each item moves the place on, and within the row.
 -- Assumes nothing.
 use borrow.Author.Needs.{needs}
 use Prim.Native.Nat.{_-_}
 use lib.ListN.{length}
 use Rattle.calling.proofs.Answers.{Asking, ask-none, nearer, ask-more, ask-end, ask-refused}
-use Rattle.calling.proofs.reader.ask_on.Statement.{statement}
-use Rattle.calling.proofs.reader.ask_on.Tie as tie
+use Rattle.calling.proofs.cells.ask_on.Statement.{statement}
+use Rattle.calling.proofs.cells.ask_on.Tie as tie
 
 abbrev Inv-loop : tie.InvT-loop
 Inv-loop table pool start row page₀ used waiting₀ at₀ t15 page waiting at = Asking table pool start row page₀ used page waiting at
