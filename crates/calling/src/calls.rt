@@ -1,5 +1,5 @@
-// The calls by their words. Each has a file, whose `answer` is handed the rest of the line: a space
-// before each field, and LF.
+// The calls by their words. The `answer` of `check`, `write`, `cells` or `row` is handed the rest of the
+// line: a space before each field, and LF.
 ghost use mathlib.Core.Path.{_≡_};
 ghost use Prim.Native.Nat.{_≤_};
 ghost use lib.ListN.{length};
