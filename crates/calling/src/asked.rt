@@ -6,7 +6,9 @@ use super::line::MOST_FIELDS;
 use super::line::MOST_ROW;
 use lines::line::Line;
 use lines::line::numbers_at;
-use pages::buffer::MOST_ROOM;
+
+// As many words as a lent buffer has.
+pub const MOST_ROOM: usize = 70000;
 
 // Where the row is among the fields: START alone stands before it, or START and ROOM.
 pub const AFTER_START: usize = 1;

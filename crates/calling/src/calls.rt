@@ -6,6 +6,7 @@ ghost use lib.ListN.{length};
 ghost use Rattle.pages.specs.Page.{Puts};
 ghost use Rattle.calling.specs.Calls.{callOf, callText, lineText};
 ghost use Rattle.calling.specs.State.{knownOf};
+use super::asked::MOST_ROOM;
 use super::cells;
 use super::cells::Ask;
 use super::check;
@@ -17,7 +18,6 @@ use super::row::Way;
 use super::state::State;
 use super::write;
 use pages::answers::unreadable;
-use pages::buffer::MOST_ROOM;
 use pages::page::PAGE_BYTES;
 
 enum Call {

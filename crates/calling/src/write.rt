@@ -5,6 +5,7 @@ ghost use Rattle.pages.specs.Page.{Puts};
 ghost use Rattle.calling.specs.Calls.{caseText, callText};
 ghost use Rattle.calling.specs.declared.calls.Call.the-variants.{Write};
 use super::asked::Lent;
+use super::asked::MOST_ROOM;
 use super::asked::take_lent;
 use super::line::MOST_FIELDS;
 use cases::Written;
@@ -12,7 +13,6 @@ use pages::answers::end_line;
 use pages::answers::listed_line;
 use pages::answers::refused;
 use pages::answers::unreadable;
-use pages::buffer::MOST_ROOM;
 use pages::buffer::fill;
 use pages::page::PAGE_BYTES;
 

@@ -3,8 +3,6 @@ ghost use mathlib.Core.Path.{_≡_};
 ghost use lib.ListN.{length, drop};
 ghost use Rattle.pages.specs.Buffer.{startWord, startWords, changed};
 
-pub const MOST_ROOM: usize = 70000;
-
 const LARGEST_WORD: u64 = 18446744073709551615;
 
 fn start_word(place: usize) -> u64
