@@ -33,7 +33,8 @@ pub fn put_number(page: &mut [u8; PAGE_BYTES], used: usize, n: u64) -> usize
     let mut digits = [0u8; MOST_DIGITS];
     match put::put_number(n, &mut digits) {
         Put::Bytes(size) => put_text(page, used, &digits[..size]),
-        Put::NoRoom => used, // never: 20 bytes have room for any word
+        // Never: the scratch has room for any word.
+        Put::NoRoom => used,
     }
 }
 
