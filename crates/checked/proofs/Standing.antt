@@ -2,12 +2,12 @@
 --   front-large, front-big, front-wrong   refused, by the walk or by 16
 --   front-there     a number, and the cells after its case: a case has at least one cell, so the place moves on
 -- Assumes nothing.
-use mathlib.Core.Path.{_≡_, refl, ap, _∙_}
+use mathlib.Core.Path.{_≡_, refl, ap, subst, _∙_}
 use mathlib.Core.Logic.{inl}
 use mathlib.Core.List.{List, _++_}
 use Prim.Native.Nat.{ℕ, _+_, _-_, _^_, _≤_, _<_}
 use native.Mathlib.Omega.{arith}
-use lib.ListN.{length, drop, length-append, length-drop, drop-of-length-le}
+use lib.ListN.{length, drop, length-append, length-drop}
 use borrow.Author.Tests.{lt-ltb, le-ltb}
 use Rattle.grammar.specs.declared.refusal.Refusal.{Refusal}
 use Rattle.grammar.specs.declared.refusal.Refusal.the-variants.{NumberTooLarge}
@@ -15,7 +15,7 @@ use Rattle.visits.specs.Grammar.{planned}
 use Rattle.walk.specs.Walk.{depth}
 use Rattle.walk.specs.Room.{most}
 use Rattle.visits.specs.Reading.{Read, taken}
-use Rattle.visits.specs.Got.{Took}
+use Rattle.visits.specs.Got.{Inside, Took}
 use Rattle.visits.specs.Look.{Reading}
 use Rattle.visits.specs.declared.number.Got.{Got}
 use Rattle.visits.specs.declared.number.Got.the-variants.{Number as Read-number, Big, Wrong}
@@ -54,17 +54,11 @@ module _ {plan p : List ℕ} {i : ℕ} (h : Stands plan p i) (cells : List ℕ) 
         let cut : drop at cells ≡ ws ++ drop next cells = stands ∙ rw shifted-none in
         omega (arith, ap length cut, length-append ws (drop next cells))
 
-    pub front-there : n < 2 ^ 62 → next ≤ length cells → Stood (front (planned plan p) i (drop at cells)) cells at (Number n next)
+    pub front-there : n < 2 ^ 62 → Stood (front (planned plan p) i (drop at cells)) cells at (Number n next)
     unfolding frontOf
-    front-there s l =
+    front-there s =
+        let l : next ≤ length cells = subst (Inside cells) e (took .inside) in
         record { is = (rw (told took' e .0, lt-ltb n (2 ^ 62) s), omega (arith, goes-on, length-drop next cells, length-drop at cells), l) }
-
-    pub front-end : n < 2 ^ 62 → length cells < next → Stood (front (planned plan p) i (drop at cells)) cells at (Number n (length cells))
-    unfolding frontOf
-    front-end s l =
-        let none = drop-of-length-le cells {i = next} (omega arith) in
-        let all = drop-of-length-le cells {i = length cells} (omega arith) in
-        record { is = (rw (told took' e .0, lt-ltb n (2 ^ 62) s, none, all), omega (arith, goes-on, length-drop next cells, length-drop at cells), omega arith) }
 
   pub front-big : {next : ℕ} → g ≡ Big next → Stood (front (planned plan p) i (drop at cells)) cells at (Not NumberTooLarge)
   unfolding frontOf

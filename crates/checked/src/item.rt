@@ -27,9 +27,6 @@ pub fn item_at(plan: &[u64], pool: &[u64], start: usize, cells: &[u64], at: usiz
             if LARGEST <= n {
                 return Item::Not(Refusal::NumberTooLarge);
             }
-            if cells.len() < next {
-                return Item::Number(n, cells.len());
-            }
             Item::Number(n, next)
         }
         Got::Big(_) => Item::Not(Refusal::NumberTooLarge),

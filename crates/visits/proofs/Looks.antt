@@ -65,6 +65,9 @@ module _ (cells : List ℕ) (at stop : ℕ) (f : ℕ → ℕ → List ℕ → Ah
 pub cell-in : (cells : List ℕ) (at stop : ℕ) {r : Celled} → r ≡ celled cells at stop → {c : ℕ} → r ≡ Cell c → at < length cells
 cell-in cells at stop e q = found cells at stop (λ c k cs. fails NotACase) e (Cell _) q .1
 
+pub cell-end : (cells : List ℕ) (at stop : ℕ) {r : Celled} → r ≡ celled cells at stop → {c : ℕ} → r ≡ Cell c → at + 1 ≤ length cells
+cell-end cells at stop e q = omega (arith, cell-in cells at stop e q)
+
 -- ---- a word's place
 pub record Placing (p : List ℕ) (at count c k : ℕ) : Type 0 where
   pub le : k ≤ count

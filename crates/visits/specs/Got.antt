@@ -66,8 +66,15 @@ TookBy least w cells stop (Number n k) = (w ≡ read n (stop - k) (drop k cells)
 TookBy least w cells stop (Big k) = (m : ℕ) × (least ≤ m) × (w ≡ read m (stop - k) (drop k cells))
 TookBy least w cells stop (Wrong r) = w ≡ wrong r
 
+-- and is within them
+abbrev pub Inside : List ℕ → Got → Type 0
+Inside cells (Number n k) = k ≤ length cells
+Inside cells (Big k) = k ≤ length cells
+Inside cells (Wrong r) = Unit {0}
+
 pub record Took (least : ℕ) (w : Read) (cells : List ℕ) (stop : ℕ) (r : Got) : Type 0 where
   pub is : TookBy least w cells stop r
+  pub inside : Inside cells r
 
 -- what the code needs to join a dep's numbers: x is below the size of the first part
 pub record DepJoins (plan p : List ℕ) (a b x : ℕ) : Type 0 where

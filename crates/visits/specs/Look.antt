@@ -1,12 +1,13 @@
 -- What a reading visit finds, in the code's words.
 --   seen        the code's answer, with a place for the cells from there on
+--   EndsIn      a place after a cell is within the cells
 --   placed, celled   a word's place, the cell at a place
 --   Reading     of one visit: the node is there, and what shifts take off is for a part of one cell
 -- Assumes nothing.
 use mathlib.Core.Path.{_≡_}
 use mathlib.Core.Logic.{_⊎_}
 use mathlib.Core.List.{List}
-use Prim.Native.Nat.{ℕ, _-_, _<_}
+use Prim.Native.Nat.{ℕ, _-_, _≤_, _<_}
 use lib.Dec.{ltb, leb}
 use lib.ListN.{length, getD, drop}
 use Rattle.grammar.specs.Rows.{seconds}
@@ -32,6 +33,14 @@ seen plan p cells stop (Fails r) = fails r
 seen plan p cells stop (On how i off k) = on (becomes how) i off (stop - k) (drop k cells)
 seen plan p cells stop (Both a b k) = both a b (stop - k) (drop k cells)
 seen plan p cells stop (Chosen a b k) = chosen a (seconds p b (sizeIn plan a)) (stop - k) (drop k cells)
+
+-- a number of its own stands at a place within the cells
+abbrev pub EndsIn : List ℕ → Next → Type 0
+EndsIn cells (Ends n k) = k ≤ length cells
+EndsIn cells (Fails r) = Unit {0}
+EndsIn cells (On how i off k) = Unit {0}
+EndsIn cells (Both a b k) = Unit {0}
+EndsIn cells (Chosen a b k) = Unit {0}
 
 pub record Reading (plan p : List ℕ) (i off : ℕ) : Type 0 where
   pub walks : Walkable plan p

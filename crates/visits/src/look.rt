@@ -8,7 +8,7 @@ ghost use Rattle.grammar.specs.Node.{pool as poolNode};
 ghost use Rattle.grammar.specs.Plan.{sizeIn};
 ghost use Rattle.visits.specs.Grammar.{nodeIn};
 ghost use Rattle.visits.specs.Reading.{ahead};
-ghost use Rattle.visits.specs.Look.{seen, Reading, placed, celled};
+ghost use Rattle.visits.specs.Look.{seen, EndsIn, Reading, placed, celled};
 use super::number::How;
 use grammar::kinds::AGAIN;
 use grammar::kinds::BELOW;
@@ -75,6 +75,7 @@ pub fn cell_at(cells: &[u64], at: usize, stop: usize) -> Celled
 // "a number cell not below its count", after taking off what the shifts above add
 fn below_next(a: u64, off: u64, cells: &[u64], at: usize, stop: usize) -> Next
     ensures { λ r. ⌜ ((plan p : List ℕ) → ahead (sizeIn plan) p (below a) off (stop - at) (drop at (now (cells .entry))) ≡ seen plan p (now (cells .entry)) stop r) ⌝ }
+    ensures { λ r. ⌜ EndsIn (now (cells .entry)) r ⌝ }
 {
     match cell_at(cells, at, stop) {
         Celled::None(r) => Next::Fails(r),
@@ -92,6 +93,7 @@ fn below_next(a: u64, off: u64, cells: &[u64], at: usize, stop: usize) -> Next
 
 fn nats_next(off: u64, cells: &[u64], at: usize, stop: usize) -> Next
     ensures { λ r. ⌜ ((plan p : List ℕ) → ahead (sizeIn plan) p nats off (stop - at) (drop at (now (cells .entry))) ≡ seen plan p (now (cells .entry)) stop r) ⌝ }
+    ensures { λ r. ⌜ EndsIn (now (cells .entry)) r ⌝ }
 {
     match cell_at(cells, at, stop) {
         Celled::None(r) => Next::Fails(r),
@@ -108,6 +110,7 @@ fn nats_next(off: u64, cells: &[u64], at: usize, stop: usize) -> Next
 fn pool_next(pool: &[u64], a: usize, b: usize, cells: &[u64], at: usize, stop: usize) -> Next
     requires { ⌜ a + b ≤ length (now pool) ⌝ }
     ensures { λ r. ⌜ ((plan : List ℕ) (off : ℕ) → ahead (sizeIn plan) (now (pool .entry)) (poolNode a b) off (stop - at) (drop at (now (cells .entry))) ≡ seen plan (now (pool .entry)) (now (cells .entry)) stop r) ⌝ }
+    ensures { λ r. ⌜ EndsIn (now (cells .entry)) r ⌝ }
 {
     match cell_at(cells, at, stop) {
         Celled::None(r) => Next::Fails(r),
@@ -122,6 +125,7 @@ fn pool_next(pool: &[u64], a: usize, b: usize, cells: &[u64], at: usize, stop: u
 fn or_next(plan: &[u64], a: usize, b: usize, cells: &[u64], at: usize, stop: usize) -> Next
     requires { ⌜ (4 * a + 3 < length (now plan)) × (4 * b + 3 < length (now plan)) ⌝ }
     ensures { λ r. ⌜ ((p : List ℕ) (off : ℕ) → ahead (sizeIn (now (plan .entry))) p (or a b) off (stop - at) (drop at (now (cells .entry))) ≡ seen (now (plan .entry)) p (now (cells .entry)) stop r) ⌝ }
+    ensures { λ r. ⌜ EndsIn (now (cells .entry)) r ⌝ }
 {
     match cell_at(cells, at, stop) {
         Celled::None(r) => Next::Fails(r),
@@ -149,6 +153,7 @@ pub fn next_of(
     requires { ⌜ Reading (now plan) (now pool) i off ⌝ }
     requires { ⌜ off ≤ 2 ^ 40 ⌝ }
     ensures { λ r. ⌜ ahead (sizeIn (now (plan .entry))) (now (pool .entry)) (nodeIn (now (plan .entry)) i) off (stop - at) (drop at (now (cells .entry))) ≡ seen (now (plan .entry)) (now (pool .entry)) (now (cells .entry)) stop r ⌝ }
+    ensures { λ r. ⌜ EndsIn (now (cells .entry)) r ⌝ }
 {
     let kind = plan[4 * i];
     let a = plan[4 * i + 1];

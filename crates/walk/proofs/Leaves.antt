@@ -27,7 +27,7 @@ use Rattle.visits.specs.declared.look.Celled.the-variants.{Cell, None}
 use Rattle.visits.specs.declared.number.Got.{Got}
 use Rattle.visits.specs.declared.number.Got.the-variants.{Wrong}
 use Rattle.visits.proofs.Nodes.{kindAt, aAt}
-use Rattle.visits.proofs.Looks.{cell-ahead, none-ahead}
+use Rattle.visits.proofs.Looks.{cell-end, cell-ahead, none-ahead}
 use Rattle.walk.proofs.Takes.{taken-by, ends-took}
 
 sub-none : (c : ℕ) → c - 0 ≡ c
@@ -70,15 +70,15 @@ module _ (plan : List ℕ) (i : ℕ) (cells : List ℕ) (at stop : ℕ) {r : Cel
 
   -- ---- as the code finds it
   pub leaf-none : {u : Refusal} → r ≡ None u → Leaf plan i cells at stop (Wrong u)
-  leaf-none q = record { is = λ k p d least f l. record { is = reads-none p d f q k } }
+  leaf-none q = record { is = λ k p d least f l. record { is = reads-none p d f q k; inside = tt } }
 
   module _ {c : ℕ} (q : r ≡ Cell c) where
     pub leaf-nats : kindAt plan i ≡ 1 → {g : Got} → g ≡ gotOf (capped c) (at + 1) → Leaf plan i cells at stop g
-    leaf-nats k h = record { is = λ _ p d least f l. ends-took c (at + 1) l (reads-nats p d f q k) h }
+    leaf-nats k h = record { is = λ _ p d least f l. ends-took c (at + 1) (cell-end cells at stop e q) l (reads-nats p d f q k) h }
 
     module _ (n : kindAt plan i ≡ 1 → ⊥) where
       pub leaf-below : c < aAt plan i → {g : Got} → g ≡ gotOf (capped c) (at + 1) → Leaf plan i cells at stop g
-      leaf-below m h = record { is = λ k p d least f l. ends-took c (at + 1) l (reads-below p d f q (omega arith) m) h }
+      leaf-below m h = record { is = λ k p d least f l. ends-took c (at + 1) (cell-end cells at stop e q) l (reads-below p d f q (omega arith) m) h }
 
       pub leaf-large : aAt plan i ≤ c → Leaf plan i cells at stop (Wrong NotACase)
-      leaf-large m = record { is = λ k p d least f l. record { is = reads-large p d f q (omega arith) m } }
+      leaf-large m = record { is = λ k p d least f l. record { is = reads-large p d f q (omega arith) m; inside = tt } }

@@ -1,6 +1,6 @@
 -- Numbers on the way up a reading walk: what is read, of what was read of the parts.
 --   taken-deep, taken-at   what a visit reads, by what it finds
---   ends-took, grown-took  a number of its own; a part's number, and what it becomes
+--   ends-in, ends-took, grown-took  a number of its own; a part's number, and what it becomes
 --   both-.., chosen-..     two parts' numbers, joined
 -- A number that is too big stays so: a join is at least its parts, and an except takes off one.
 -- Assumes nothing.
@@ -11,7 +11,7 @@ use Prim.Native.Nat.{ℕ, zero, suc, _-_, _^_, _≤_, _<_}
 use native.Mathlib.Numerals.{sub-one}
 use native.Mathlib.Omega.{arith}
 use lib.Dec.{eqb, ltb}
-use lib.ListN.{getD, drop}
+use lib.ListN.{length, getD, drop}
 use borrow.Author.Tests.{ltb-true, ltb-false, ne-eqb}
 use Rattle.numbers.specs.Size.{Size, sizeOf, Some}
 use Rattle.numbers.specs.Or.{turn}
@@ -28,13 +28,18 @@ use Rattle.grammar.specs.declared.refusal.Refusal.the-variants.{TooDeep}
 use Rattle.visits.specs.Grammar.{Grammar, planned, nodeIn}
 use Rattle.visits.specs.Visit.{secondsOf}
 use Rattle.visits.specs.Reading.{both, chosen, Read, read, wrong, ahead, become, then, follow, taken}
-use Rattle.visits.specs.Look.{seen}
+use Rattle.visits.specs.Look.{seen, EndsIn}
 use Rattle.visits.specs.Got.{becomes, SmallHow, gotOf, grownOf, biggerOf, joinedBy, TookBy, Took}
 use Rattle.visits.specs.declared.look.Next.{Next}
+use Rattle.visits.specs.declared.look.Next.the-variants.{Ends}
 use Rattle.visits.specs.declared.number.How.{How}
 use Rattle.visits.specs.declared.number.How.the-variants.{Same, Turned, Without}
 use Rattle.visits.specs.declared.number.Got.{Got}
 use Rattle.visits.specs.declared.number.Got.the-variants.{Number, Big, Wrong}
+
+-- ---- a number of its own, where the code says so
+pub ends-in : (cells : List ℕ) {r : Next} → EndsIn cells r → {n k : ℕ} → r ≡ Ends n k → k ≤ length cells
+ends-in cells h e = subst (EndsIn cells) e h
 
 -- ---- a visit
 pub taken-deep : (g : Grammar) (i off q : ℕ) (cs : List ℕ) {d : ℕ} → d ≡ 0 → taken g d i off q cs ≡ wrong TooDeep
@@ -57,31 +62,31 @@ pub told : {l stop : ℕ} {w : Read} {cells : List ℕ} {g g' : Got} → Took l 
 told {l} {stop} {w} {cells} h e = subst (TookBy l w cells stop) e (h .is)
 
 module _ {cells : List ℕ} {stop : ℕ} where
-  capped-took : (m k : ℕ) {l : ℕ} {w : Read} → l ≤ limit → w ≡ read m (stop - k) (drop k cells) → Took l w cells stop (gotOf (capped m) k)
+  capped-took : (m k : ℕ) {l : ℕ} {w : Read} → k ≤ length cells → l ≤ limit → w ≡ read m (stop - k) (drop k cells) → Took l w cells stop (gotOf (capped m) k)
   unfolding gotOf capped
-  capped-took m k {l} {w} hi e =
-      pick-by (λ j. Took l w cells stop (gotOf j k)) (ltb m limit) (λ t. record { is = (e, ltb-true m limit t) }) (λ t. record { is = (m, omega (arith, ltb-false m limit t), e) })
+  capped-took m k {l} {w} in-cells hi e =
+      pick-by (λ j. Took l w cells stop (gotOf j k)) (ltb m limit) (λ t. record { is = (e, ltb-true m limit t); inside = in-cells }) (λ t. record { is = (m, omega (arith, ltb-false m limit t), e); inside = in-cells })
 
-  pub ends-took : (m k : ℕ) {l : ℕ} {w : Read} {g : Got} → l ≤ limit → w ≡ read m (stop - k) (drop k cells) → g ≡ gotOf (capped m) k → Took l w cells stop g
-  ends-took m k {l} {w} hi e e' = subst (Took l w cells stop) (sym e') (capped-took m k hi e)
+  pub ends-took : (m k : ℕ) {l : ℕ} {w : Read} {g : Got} → k ≤ length cells → l ≤ limit → w ≡ read m (stop - k) (drop k cells) → g ≡ gotOf (capped m) k → Took l w cells stop g
+  ends-took m k {l} {w} in-cells hi e e' = subst (Took l w cells stop) (sym e') (capped-took m k in-cells hi e)
 
   -- ---- one part
   grows : (how : How) (g : Got) {l' l : ℕ} {w : Read} → SmallHow how → l' < l → 2 ^ 62 ≤ l' → l' ≤ limit → Took l w cells stop g
       → Took l' (then w (become (becomes how))) cells stop (grownOf how g)
   unfolding become grownOf
-  grows Same (Number n k) s lt lo hi h = record { is = (rw (h .is .0), h .is .1) }
-  grows (Turned b u) (Number n k) s lt lo hi h = capped-took (turn b (sizeOf u) n) k hi (rw (h .is .0))
+  grows Same (Number n k) s lt lo hi h = record { is = (rw (h .is .0), h .is .1); inside = h .inside }
+  grows (Turned b u) (Number n k) s lt lo hi h = capped-took (turn b (sizeOf u) n) k (h .inside) hi (rw (h .is .0))
   grows (Without b) (Number n k) {l'} {l} {w} s lt lo hi h =
       pick-by (Took l' (then w (become (becomes (Without b)))) cells stop) (eqb n b)
-      (λ t. record { is = rw (h .is .0, t) })
-      (λ t. capped-took (Except.join b n) k hi (rw (h .is .0, t)))
-  grows Same (Big k) s lt lo hi h = record { is = (h .is .0, omega (arith, h .is .1), rw (h .is .2)) }
-  grows (Turned b u) (Big k) s lt lo hi h = let m = h .is .0 in record { is = (turn b (sizeOf u) m, omega (arith, h .is .1, turn-least b (sizeOf u) m), rw (h .is .2)) }
+      (λ t. record { is = rw (h .is .0, t); inside = tt })
+      (λ t. capped-took (Except.join b n) k (h .inside) hi (rw (h .is .0, t)))
+  grows Same (Big k) s lt lo hi h = record { is = (h .is .0, omega (arith, h .is .1), rw (h .is .2)); inside = h .inside }
+  grows (Turned b u) (Big k) s lt lo hi h = let m = h .is .0 in record { is = (turn b (sizeOf u) m, omega (arith, h .is .1, turn-least b (sizeOf u) m), rw (h .is .2)); inside = h .inside }
   grows (Without b) (Big k) s lt lo hi h =
       let m = h .is .0 in
       let ne : eqb m b ≡ false = ne-eqb m b (λ e. omega (arith, h .is .1)) in
-      record { is = (Except.join b m, omega (arith, h .is .1, Excepts.join-least b m .0), rw (h .is .2, ne)) }
-  grows how (Wrong r) s lt lo hi h = record { is = rw (h .is) }
+      record { is = (Except.join b m, omega (arith, h .is .1, Excepts.join-least b m .0), rw (h .is .2, ne)); inside = h .inside }
+  grows how (Wrong r) s lt lo hi h = record { is = rw (h .is); inside = tt }
 
   pub grown-took : (how : How) (g : Got) {g' : Got} {l' l : ℕ} {w v : Read} → v ≡ then w (become (becomes how)) → SmallHow how → l' < l → 2 ^ 62 ≤ l' → l' ≤ limit
       → Took l w cells stop g → g' ≡ grownOf how g → Took l' v cells stop g'
@@ -91,15 +96,15 @@ module _ {cells : List ℕ} {stop : ℕ} where
   joins : (f : ℕ → ℕ) (g : Got) {l' l : ℕ} {w : Read} → ((y : ℕ) → y ≤ f y) → l' ≤ l → l' ≤ limit → Took l w cells stop g
       → Took l' (then w (λ y. read (f y))) cells stop (joinedBy f g)
   unfolding joinedBy
-  joins f (Number y k) up le hi h = capped-took (f y) k hi (rw (h .is .0))
-  joins f (Big k) up le hi h = let m = h .is .0 in record { is = (f m, omega (arith, h .is .1, up m), rw (h .is .2)) }
-  joins f (Wrong r) up le hi h = record { is = rw (h .is) }
+  joins f (Number y k) up le hi h = capped-took (f y) k (h .inside) hi (rw (h .is .0))
+  joins f (Big k) up le hi h = let m = h .is .0 in record { is = (f m, omega (arith, h .is .1, up m), rw (h .is .2)); inside = h .inside }
+  joins f (Wrong r) up le hi h = record { is = rw (h .is); inside = tt }
 
   enlarges : (f : ℕ → ℕ) (g : Got) {l' l : ℕ} {w : Read} → ((y : ℕ) → l' ≤ f y) → Took l w cells stop g → Took l' (then w (λ y. read (f y))) cells stop (biggerOf g)
   unfolding biggerOf
-  enlarges f (Number y k) up h = record { is = (f y, up y, rw (h .is .0)) }
-  enlarges f (Big k) up h = record { is = (f (h .is .0), up (h .is .0), rw (h .is .2)) }
-  enlarges f (Wrong r) up h = record { is = rw (h .is) }
+  enlarges f (Number y k) up h = record { is = (f y, up y, rw (h .is .0)); inside = h .inside }
+  enlarges f (Big k) up h = record { is = (f (h .is .0), up (h .is .0), rw (h .is .2)); inside = h .inside }
+  enlarges f (Wrong r) up h = record { is = rw (h .is); inside = tt }
 
   -- the second part is read where the first ends
   module _ (z : ℕ → Size) (part : ℕ → ℕ → ℕ → List ℕ → Read) {l' l : ℕ} {v : Read} where
@@ -126,8 +131,8 @@ module _ {cells : List ℕ} {stop : ℕ} where
   module _ (z : ℕ → Size) (part : ℕ → ℕ → ℕ → List ℕ → Read) {l' : ℕ} {v : Read} {r : Refusal} where
     pub both-wrong : (a b q : ℕ) (cs : List ℕ) → v ≡ follow z part (both a b q cs) → part a 0 q cs ≡ wrong r → Took l' v cells stop (Wrong r)
     unfolding follow
-    both-wrong a b q cs e t = record { is = rw (e, t) }
+    both-wrong a b q cs e t = record { is = rw (e, t); inside = tt }
 
     pub chosen-wrong : (a q : ℕ) (ss cs : List ℕ) → v ≡ follow z part (chosen a ss q cs) → part a 0 q cs ≡ wrong r → Took l' v cells stop (Wrong r)
     unfolding follow
-    chosen-wrong a q ss cs e t = record { is = rw (e, t) }
+    chosen-wrong a q ss cs e t = record { is = rw (e, t); inside = tt }

@@ -2,7 +2,7 @@
 -- Assumes nothing.
 use borrow.Author.Needs.{needs}
 use native.Mathlib.Omega.{arith}
-use Rattle.checked.proofs.Standing.{reads-of, front-large, front-there, front-end, front-big, front-wrong}
+use Rattle.checked.proofs.Standing.{reads-of, front-large, front-there, front-big, front-wrong}
 use Rattle.checked.proofs.item.item_at.Statement.{statement}
 use Rattle.checked.proofs.item.item_at.Tie as tie
 
@@ -14,9 +14,8 @@ item-at-spec =
     (λ c κs. (reads-of (c .before .before .before .pre .0), omega arith))
     (λ c. search needs)
     (λ c. front-large (c .before .before .before .before .before .before .before .before .pre .0) _ _ (omega arith) (c .before .before .before .before .take .ensures) (c .before .before .n .given .1) (c .if1 .taken))
-    (λ c. front-end (c .before .before .before .before .before .before .before .before .before .pre .0) _ _ (omega arith) (c .before .before .before .before .before .take .ensures) (c .before .before .before .n .given .1) (c .before .if1 .left) (c .if2 .taken))
     (λ c. search needs)
     (λ c. search needs)
-    (λ c. front-there (c .before .before .before .before .before .before .before .before .before .pre .0) _ _ (omega arith) (c .before .before .before .before .before .take .ensures) (c .before .before .before .n .given .1) (c .before .if1 .left) (c .if2 .left))
+    (λ c. front-there (c .before .before .before .before .before .before .before .before .pre .0) _ _ (omega arith) (c .before .before .before .before .take .ensures) (c .before .before .n .given .1) (c .if1 .left))
     (λ c. front-big (c .before .before .before .before .before .before .pre .0) _ _ (omega arith) (c .before .before .take .ensures) (c .enum-told .given .1))
     (λ c. front-wrong (c .before .before .before .before .before .before .before .pre .0) _ _ (omega arith) (c .before .before .before .take .ensures) (c .before .r .given .1)))

@@ -19,7 +19,7 @@ use Rattle.visits.proofs.Nodes.{in-plan}
 use Rattle.walk.proofs.Only.{only}
 use Rattle.walk.proofs.Leads.{Leads, leads-of, on-reads, part-reads, small-how}
 use Rattle.walk.proofs.Chosen.{count-is, dep-joins, second-in, second-reads, second-is, chosen-least, none-big}
-use Rattle.walk.proofs.Takes.{taken-deep, taken-at, told, ends-took, grown-took, both-number, both-big, both-wrong, chosen-number, chosen-wrong}
+use Rattle.walk.proofs.Takes.{taken-deep, taken-at, told, ends-in, ends-took, grown-took, both-number, both-big, both-wrong, chosen-number, chosen-wrong}
 use Rattle.walk.proofs.take.take.Reads as take
 use Rattle.walk.proofs.take.take.Kinds as take-kinds
 use Rattle.walk.proofs.take.part.Reads as part
@@ -83,11 +83,11 @@ module _ (t : ℕ) where
   arm : (c : Visit) {s : Next} → c .next-of .result ≡ s → let a = c .before .before .before .before .before .before .before .args in
       taken (planned (a .plan .now) (a .pool .now)) (a .left) (a .i) (a .off) (a .stop - a .at) (drop (a .at) (a .cells .now))
       ≡ follow (sizeIn (a .plan .now)) (taken (planned (a .plan .now) (a .pool .now)) (c .before .before .before .follow .result .left - 1)) (seen (a .plan .now) (a .pool .now) (a .cells .now) (a .stop) s)
-  arm c e = c .before .before .before .follow .ensures .takes _ _ (c .before .before .before .before .before .before .before .pre .1 .0) _ _ ∙ taken-at _ _ _ _ _ _ _ _ _ (c .before .if1 .left) (c .next-of .ensures) e
+  arm c e = c .before .before .before .follow .ensures .takes _ _ (c .before .before .before .before .before .before .before .pre .1 .0) _ _ ∙ taken-at _ _ _ _ _ _ _ _ _ (c .before .if1 .left) (c .next-of .ensures .0) e
 
   leads : (c : Visit) {s : Next} → c .next-of .result ≡ s → let a = c .before .before .before .before .before .before .before .args in
       Leads (planned (a .plan .now) (a .pool .now)) (reads-of c .walks .count) (c .before .before .before .follow .result .node) (a .off) (seen (a .plan .now) (a .pool .now) (a .cells .now) (a .stop) s)
-  leads c e = leads-of _ _ _ _ (reads-of c) (c .next-of .ensures) e
+  leads c e = leads-of _ _ _ _ (reads-of c) (c .next-of .ensures .0) e
 
   -- a part's call: the depth falls, the part may be read, and shifts have room to grow
   go : (c : Visit) {q o : ℕ} → let a = c .before .before .before .before .before .before .before .args in Reading (a .plan .now) (a .pool .now) q o → o ≤ a .off + 2 ^ 32
@@ -98,15 +98,15 @@ module _ (t : ℕ) where
       (omega (arith, c .before .before .before .before .before .before .before .pre .0), (h, omega (arith, c .before .before .before .before .before .before .before .pre .1 .1)))
 
   deep-returns : lts.Need-returns calls at-t take.Post
-  deep-returns c = record { is = c .before .before .follow .ensures .takes _ _ (c .before .before .before .before .before .before .pre .1 .0) _ _ ∙ taken-deep _ _ _ _ _ (c .if1 .taken) }
+  deep-returns c = record { is = c .before .before .follow .ensures .takes _ _ (c .before .before .before .before .before .before .pre .1 .0) _ _ ∙ taken-deep _ _ _ _ _ (c .if1 .taken); inside = tt }
 
   ends-returns : lts.Need-returns-2 calls at-t take.Post
   unfolding follow
-  ends-returns c = ends-took _ _ (omega arith) (arm (c .before .before .before .before .before) (c .before .before .before .n .given .1)) (rw (← c .before .cap .ensures) (c .got-of .ensures))
+  ends-returns c = ends-took _ _ (ends-in (c .before .before .before .before .before .before .before .before .before .before .before .before .args .cells .now) (c .before .before .before .before .before .next-of .ensures .1) (c .before .before .before .n .given .1)) (omega arith) (arm (c .before .before .before .before .before) (c .before .before .before .n .given .1)) (rw (← c .before .cap .ensures) (c .got-of .ensures))
 
   fails-returns : lts.Need-returns-3 calls at-t take.Post
   unfolding follow
-  fails-returns c = record { is = arm (c .before .before .before) (c .before .r .given .1) }
+  fails-returns c = record { is = arm (c .before .before .before) (c .before .r .given .1); inside = tt }
 
   on-returns : lts.Need-returns-4 calls at-t take.Post
   unfolding follow
@@ -187,7 +187,7 @@ pub +part+take-spec : {M : Type 1} → statement M
     (λ c. c .take .ensures)
     (λ c κs. omega (arith, in-plan (c .before .before .before .before .before .before .pre .1 .0 .walks) (c .before .before .before .before .before .before .pre .1 .0 .node)))
     (λ c. c .leaf .ensures .is (c .before .before .if1 .left) _ _ _ (λ e. omega (arith, c .before .if2 .taken)) (omega arith))
-    (λ c. record { is = taken-deep _ _ _ _ _ (omega (arith, c .if2 .left)) })) λ t. lts.spec (calls t) (at-t t) take.Post
+    (λ c. record { is = taken-deep _ _ _ _ _ (omega (arith, c .if2 .left)); inside = tt })) λ t. lts.spec (calls t) (at-t t) take.Post
     (λ c κs. let r = c .before .before .before .pre .1 .0 in record { pool = c .before .before .before .args .pool .now; walks = r .walks; node = r .node })
     (deep-returns t)
     (λ c κs. (c .before .before .follow .ensures .reads _ _ (c .before .before .before .before .before .before .pre .1 .0), omega (arith, c .before .before .before .before .before .before .pre .1 .1)))
