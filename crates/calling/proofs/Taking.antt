@@ -19,7 +19,7 @@ use Rattle.calling.specs.declared.asked.Taken.{Taken}
 use Rattle.calling.specs.declared.asked.Taken.the-variants.{Count, Unreadable}
 use Rattle.calling.specs.declared.asked.Lent.the-variants.{Of, Unreadable as NotLent}
 
-and-not : (a : Bool) {b : Bool} → b ≡ false → (a && b) ≡ false
+pub and-not : (a : Bool) {b : Bool} → b ≡ false → (a && b) ≡ false
 and-not true e = e
 and-not false e = refl
 

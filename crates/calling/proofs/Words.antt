@@ -17,17 +17,14 @@ use Rattle.lines.specs.Ascii.{bytes}
 use Rattle.calling.specs.Line.{same}
 use Rattle.calling.specs.Calls.{callOf}
 use Rattle.calling.specs.declared.calls.Call.the-variants.{Check, Write, Read, WriteRow, ReadRow, Reader, Unknown}
-
-false-and : (a : Bool) {b : Bool} → false ≡ b → false ≡ (a && b)
-false-and true e = e
-false-and false e = refl
+use Rattle.calling.proofs.Taking.{and-not}
 
 pub same-long : (xs ys : List ℕ) → (length xs ≡ length ys → ⊥) → false ≡ same xs ys
 unfolding same
 same-long [] [] f = absurd (f refl)
 same-long [] (y ∷ ys) f = refl
 same-long (x ∷ xs) [] f = refl
-same-long (x ∷ xs) (y ∷ ys) f = false-and (eqb x y) (same-long xs ys (λ q. f (ap suc q)))
+same-long (x ∷ xs) (y ∷ ys) f = sym (and-not (eqb x y) (sym (same-long xs ys (λ q. f (ap suc q)))))
 
 pub record Comparing (xs ys : List ℕ) (i : ℕ) : Type 0 where
   pub few : i ≤ length xs
