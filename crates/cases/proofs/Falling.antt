@@ -23,10 +23,11 @@ use Rattle.numbers.proofs.or.Laws as Ors
 use Rattle.numbers.proofs.cons.Laws as Conses
 use Rattle.numbers.proofs.dep.Laws as Deps
 use Rattle.grammar.specs.Node.{Node, below, nats, pool, shift, or, cons, dep, except, fix, again, unknown}
-use Rattle.grammar.specs.Rows.{seconds}
+use Rattle.grammar.specs.Checks.{seconds}
 use Rattle.grammar.specs.Steps.{steps}
 use Rattle.visits.specs.Grammar.{Grammar}
-use Rattle.visits.specs.Visit.{secondsOf, tagged, stepOf}
+use Rattle.visits.specs.Visit.{tagged, stepOf}
+use Rattle.grammar.specs.kinds.Dep.{secondsOf}
 use Rattle.visits.specs.Good.{Fits, Good}
 use Rattle.walk.proofs.Parts.{seconds-some, total-is, firsts-is, dep-least}
 use Rattle.cases.proofs.Descent.{Falls, first, number, second}

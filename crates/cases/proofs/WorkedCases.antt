@@ -15,16 +15,19 @@ use Rattle.graph.specs.Ways.{has, via}
 use Rattle.graph.specs.Lowest.{lowest}
 use Rattle.grammar.specs.Refusals.{numberOf}
 use Rattle.grammar.specs.Node.{nodeOf, usesA, usesB}
-use Rattle.grammar.specs.Rows.{row, different, every, total, belowRow, natsRow, poolRow, shiftRow, orRow, consRow, secondsRow, further, depRow, exceptRow, fixRow, againRow, rowOf, rowAt}
+use Rattle.grammar.specs.Checks.{row, different, every, total}
+use Rattle.grammar.specs.Rows.{belowRow, natsRow, poolRow, shiftRow, orRow, consRow, secondsRow, further, depRow, exceptRow, fixRow, againRow, rowOf, rowAt}
 use Rattle.grammar.specs.Sizes.{onward, scan, sizes}
 use Rattle.grammar.specs.Steps.{steps}
 use Rattle.grammar.specs.Verdict.{leads, unguarded, exceptOnCycle, cycles, settled, verdict}
 use Rattle.visits.specs.Grammar.{grammarOf}
-use Rattle.visits.specs.Visit.{secondsOf, stepOf}
+use Rattle.visits.specs.Visit.{stepOf}
+use Rattle.grammar.specs.kinds.Dep.{secondsOf}
 use Rattle.walk.specs.Walk.{raised, shown, walk, depth}
 use Rattle.walk.specs.Walk
 use Rattle.walk.specs.Room.{tallied}
-use Rattle.visits.specs.Reading.{cellOf, placeOf, ahead, become, follow, taken}
+use Rattle.visits.specs.Reading.{cellOf, ahead, become, follow, taken}
+use Rattle.grammar.specs.kinds.Pool.{placeOf}
 use Rattle.checked.specs.Fits.{fitted}
 use Rattle.cases.specs.Write.{walks, writes, WriteAnswer, written}
 use Rattle.cases.specs.Read.{found, finds, reads, ReadAnswer, readOf}

@@ -18,8 +18,9 @@ use Rattle.numbers.specs.Size.{Size, finite, endless, plus, times, less, Below,
 use Rattle.graph.proofs.Marks.{le-or-lt}
 use Rattle.grammar.specs.Table.{kindOf, aOf, bOf, nodes}
 use Rattle.grammar.specs.Node.{Node, below, nats, pool, shift, or, cons, dep, except, fix, again, unknown, nodeOf, nodeAt}
-use Rattle.grammar.specs.Rows.{every, isEndless, isOne, few, seconds, total, allLower, sizeFor}
-use Rattle.grammar.specs.Rows.{count as countOf}
+use Rattle.grammar.specs.Checks.{every, isEndless, isOne, few, seconds, total, allLower}
+use Rattle.grammar.specs.Rows.{sizeFor}
+use Rattle.grammar.specs.Checks.{count as countOf}
 use Rattle.grammar.specs.Sizes.{sizeAt, scan, passed, sizes}
 use Rattle.grammar.specs.Sound.{Sound, Checked}
 use Rattle.grammar.proofs.Scan.{scan-size}

@@ -17,7 +17,7 @@ use lib.ListN.{length, getD, take, drop, set}
 use Rattle.graph.proofs.Marks.{set-only}
 use Rattle.graph.proofs.Paths.{to-no-cycle}
 use Rattle.grammar.specs.Table.{kindOf, aOf, bOf, nodes}
-use Rattle.grammar.specs.Rows.{every}
+use Rattle.grammar.specs.Checks.{every}
 use Rattle.grammar.specs.Steps.{stepsOf, Step, Unguarded}
 use Rattle.grammar.specs.Plan.{sizeIn, Ready}
 use Rattle.grammar.proofs.Runs.{Upto, run-every, run-fails}

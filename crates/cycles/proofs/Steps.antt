@@ -22,7 +22,7 @@ use Rattle.graph.specs.Marks.{marked}
 use Rattle.graph.proofs.Marks.{le-or-lt}
 use Rattle.grammar.specs.Table.{kindOf, aOf, bOf, nodes}
 use Rattle.grammar.specs.Node.{nodeOf}
-use Rattle.grammar.specs.Rows.{every, allLower, few, count, seconds}
+use Rattle.grammar.specs.Checks.{every, allLower, few, count, seconds}
 use Rattle.grammar.specs.Steps.{steps, stepsOf, Step}
 use Rattle.grammar.specs.Sound.{Sound, Checked}
 use Rattle.grammar.specs.Plan.{sizeIn, Ready}

@@ -8,7 +8,7 @@ ghost use Rattle.graph.specs.Paths.{Decides};
 ghost use Rattle.graph.specs.Lowest.{Lowest};
 ghost use Rattle.graph.specs.Marks.{marked};
 ghost use Rattle.grammar.specs.Table.{nodes};
-ghost use Rattle.grammar.specs.Rows.{every};
+ghost use Rattle.grammar.specs.Checks.{every};
 ghost use Rattle.grammar.specs.Steps.{stepsOf, Leads, KindOnCycle, Unguarded, ExceptOnCycle};
 ghost use Rattle.grammar.specs.Plan.{sizeIn, Ready};
 ghost use Rattle.grammar.specs.Verdict.{cycles};

@@ -9,7 +9,8 @@ use lib.Dec.{ltb}
 use borrow.Author.Tests.{ltb-true}
 use Rattle.numbers.specs.Size.{Size}
 use Rattle.grammar.specs.Node.{Node, below, nats, pool, shift, or, cons, dep, except, fix, again, unknown}
-use Rattle.grammar.specs.Rows.{every, isEndless, allLower, seconds, total, sizeFor}
+use Rattle.grammar.specs.Checks.{every, isEndless, allLower, seconds, total}
+use Rattle.grammar.specs.Rows.{sizeFor}
 use Rattle.grammar.specs.Sound.{Sound}
 use Rattle.grammar.proofs.Tests.{and-left, and-right}
 

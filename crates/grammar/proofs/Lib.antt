@@ -9,3 +9,12 @@ pub mod Sound
 pub mod Scan
 pub mod Plans
 pub mod Grow
+pub mod Trees
+pub mod Words
+pub mod Seconds
+pub mod KindLaw
+pub mod laws
+pub mod Kept
+pub mod Turns
+pub mod Joins
+pub mod Places

@@ -13,7 +13,7 @@ use lib.Dec.{eqb}
 use lib.ListN.{length, getD, take, drop, drop-of-length-le}
 use lib.Seq.{drop-cons, drop-drop, take-nil}
 use Rattle.graph.specs.Ways.{has}
-use Rattle.grammar.specs.Rows.{different}
+use Rattle.grammar.specs.Checks.{different}
 use Rattle.grammar.proofs.Runs.{run-long, run-at}
 
 -- whether x is among the words from i up to `to`

@@ -16,7 +16,7 @@ use lib.ListN.{length, getD, take, drop, length-take, length-drop}
 use lib.Seq.{getD-take, getD-drop}
 use Rattle.numbers.specs.Size.{sizeOf}
 use Rattle.numbers.proofs.size.Laws.{by-size}
-use Rattle.grammar.specs.Rows.{every, isEndless, allLower, allFinite}
+use Rattle.grammar.specs.Checks.{every, isEndless, allLower, allFinite}
 use Rattle.grammar.specs.Plan.{sizeIn}
 use Rattle.grammar.proofs.Tests.{and-left, and-right}
 

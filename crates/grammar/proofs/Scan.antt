@@ -15,7 +15,8 @@ use lib.ListN.{length, replicate, length-set, length-append}
 use Rattle.numbers.specs.Size.{Size, codeOf}
 use Rattle.grammar.specs.Table.{kindOf, aOf, bOf, nodes}
 use Rattle.grammar.specs.Node.{nodeAt, spare}
-use Rattle.grammar.specs.Rows.{Row, fault, sized, rowAt, sizeFor}
+use Rattle.grammar.specs.Checks.{Row, fault, sized}
+use Rattle.grammar.specs.Rows.{rowAt, sizeFor}
 use Rattle.grammar.specs.Sizes.{Scan, passed, faulty, sizeAt, noted, onward, scan, sizes}
 use Rattle.grammar.specs.Plan.{sizeIn, rowed, coded, Small, Planned, AllWeighed}
 use Rattle.grammar.specs.declared.refusal.Refusal.{Refusal}

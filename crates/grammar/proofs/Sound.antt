@@ -15,7 +15,8 @@ use Rattle.numbers.specs.Size.{below as isBelow}
 use Rattle.numbers.proofs.size.Laws.{below-is}
 use Rattle.grammar.specs.Table.{kindOf, aOf, bOf, nodes}
 use Rattle.grammar.specs.Node.{Node, below, nats, pool, shift, or, cons, dep, except, fix, again, unknown, nodeAt, spare}
-use Rattle.grammar.specs.Rows.{Check, asks, Row, sized, row, further, within, fits, isOne, count, seconds, total, belowRow, natsRow, poolRow, shiftRow, orRow, consRow, secondsRow, depRow, exceptRow, fixRow, againRow, rowOf, rowAt, sizeFor}
+use Rattle.grammar.specs.Checks.{Check, asks, Row, sized, row, within, fits, isOne, count, seconds, total}
+use Rattle.grammar.specs.Rows.{further, belowRow, natsRow, poolRow, shiftRow, orRow, consRow, secondsRow, depRow, exceptRow, fixRow, againRow, rowOf, rowAt, sizeFor}
 use Rattle.grammar.specs.Sound.{Sound}
 use Rattle.grammar.specs.Plan.{Small}
 use Rattle.grammar.specs.declared.refusal.Refusal.{Refusal}

@@ -19,7 +19,8 @@ use Rattle.numbers.specs.Pick.{pick}
 use Rattle.numbers.specs.declared.size.Measured.{Measured}
 use Rattle.numbers.specs.declared.size.Measured.the-variants.{Of, Past}
 use Rattle.numbers.proofs.size.Laws.{sized-finite, sized-endless}
-use Rattle.grammar.specs.Rows.{Row, every, isEndless, allLower, allEndless, allFinite, fits, total, row, asks, further, secondsRow}
+use Rattle.grammar.specs.Checks.{Row, every, isEndless, allLower, allEndless, allFinite, fits, total, row, asks}
+use Rattle.grammar.specs.Rows.{further, secondsRow}
 use Rattle.grammar.specs.Plan.{sizeIn, coded, weighedOf}
 use Rattle.grammar.specs.declared.refusal.Refusal.the-variants.{Reference, UnsuitedPart, TooLarge}
 use Rattle.grammar.specs.declared.kinds.Weighed.{Weighed}

@@ -1,6 +1,12 @@
 -- Document 01, "The table" and "Limits and refusal numbers" 1 to 10, in 01's order.
 pub mod Refusals
 pub mod Table
+pub mod Checks
+pub mod Rule
+pub mod Kind
+pub mod kinds
+pub mod Nodes
+pub mod Law
 pub mod Node
 pub mod Used
 pub mod Rows
@@ -9,3 +15,5 @@ pub mod Sizes
 pub mod Steps
 pub mod Verdict
 pub mod Plan
+pub mod Seconds
+pub mod Placed

@@ -1,5 +1,7 @@
 -- The plan that the walks use: four words a node, its kind, a, b and its size's word.
 --   sizeIn     the size of a node, by the plan
+--   kindWord, aWord, bWord   a node's other words
+--   nodeIn, ruleIn   the node and its rule, by the plan
 --   rowed      a plan with node n's four words put in
 --   coded, weighedOf   a row's outcome, and a measured size, in the code's words
 --   Planned    the plan holds the nodes below n, with the sizes zs
@@ -12,7 +14,10 @@ use Prim.Native.Nat.{ℕ, _+_, _*_, _^_, _≤_, _<_}
 use lib.ListN.{length, getD, set}
 use Rattle.numbers.specs.Size.{Size, finite, endless, codeOf, sizeOf}
 use Rattle.grammar.specs.Table.{kindOf, aOf, bOf, nodes}
-use Rattle.grammar.specs.Rows.{Row, fault, sized}
+use Rattle.grammar.specs.Checks.{Row, fault, sized}
+use Rattle.grammar.specs.Rule.{Rule}
+use Rattle.grammar.specs.Kind.{Node, before}
+use Rattle.grammar.specs.Nodes.{kindIn}
 use Rattle.grammar.specs.Sound.{Checked}
 use Rattle.grammar.specs.Sizes.{sizeAt, scan, passed, faulty, sizes}
 use Rattle.numbers.specs.declared.size.Measured.{Measured}
@@ -25,6 +30,22 @@ use Rattle.grammar.specs.declared.kinds.Weighed.the-variants.{Fault, Of}
 
 abbrev pub sizeIn : List ℕ → ℕ → Size
 sizeIn plan n = sizeOf (getD plan (4 * n + 3) 0)
+
+abbrev pub kindWord : List ℕ → ℕ → ℕ
+kindWord plan i = getD plan (4 * i) 0
+
+abbrev pub aWord : List ℕ → ℕ → ℕ
+aWord plan i = getD plan (4 * i + 1) 0
+
+abbrev pub bWord : List ℕ → ℕ → ℕ
+bWord plan i = getD plan (4 * i + 2) 0
+
+-- as `nodeAt` and `ruleAt` are by the table
+abbrev pub nodeIn : List ℕ → List ℕ → ℕ → ℕ → Node
+nodeIn plan p count i = record { own = i; a = aWord plan i; b = bWord plan i; kind = kindWord plan; nodes = count; pool = p }
+
+unfoldable pub ruleIn : List ℕ → List ℕ → ℕ → Rule
+ruleIn plan p i = kindIn (kindWord plan i) .rule (aWord plan i) (bWord plan i) p (before (sizeIn plan) i)
 
 abbrev pub rowed : List ℕ → ℕ → ℕ → ℕ → ℕ → ℕ → List ℕ
 rowed plan n kind a b w = set (set (set (set plan (4 * n) kind) (4 * n + 1) a) (4 * n + 2) b) (4 * n + 3) w

@@ -1,5 +1,4 @@
 -- 01's table of kinds: the row of each kind is its checks in their order, each with its refusal, and then its size.
---   Check, Row, row     the first check that fails, or the size
 --   belowRow .. againRow   the ten rows; n is the node's own number, s and t the sizes of the nodes a and b
 --   rowOf, rowAt        the row of a node, and of node n of a table
 --   sizeFor             01's column "Size" alone
@@ -13,78 +12,10 @@ use Rattle.numbers.specs.Size.{Size, finite, endless, plus, times, less}
 use Rattle.numbers.specs.Size.{below as isBelow}
 use Rattle.graph.specs.Ways.{has}
 use Rattle.grammar.specs.Table.{kindOf, aOf, bOf, nodes}
+use Rattle.grammar.specs.Checks.{Check, asks, Row, fault, row, within, different, fits, isEndless, isOne, few, count, seconds, total, allLower, allFinite, allEndless}
 use Rattle.grammar.specs.Node.{Node, below, nats, pool, shift, or, cons, dep, except, fix, again, unknown, nodeAt, spare}
 use Rattle.grammar.specs.declared.refusal.Refusal.{Refusal}
 use Rattle.grammar.specs.declared.refusal.Refusal.the-variants.{Kind, SpareWord, Reference, Range, Repeat, UnsuitedPart, TooLarge}
-
-pub data Check : Type 0 where
-  asks : Bool → Refusal → Check
-
-pub data Row : Type 0 where
-  fault : Refusal → Row
-  sized : Size → Row
-
-unfoldable pub row : List Check → Size → Row
-row [] s = sized s
-row (asks true r ∷ cs) s = row cs s
-row (asks false r ∷ cs) s = fault r
-
--- ---- words
--- "a+b within the pool": at most its length
-abbrev pub within : ℕ → ℕ → List ℕ → Bool
-within a b p = leb (a + b) (length p)
-
--- "words all different"
-unfoldable pub different : List ℕ → Bool
-different [] = true
-different (x ∷ xs) = not (has x xs) && different xs
-
-unfoldable pub every : (ℕ → Bool) → List ℕ → Bool
-every test [] = true
-every test (x ∷ xs) = test x && every test xs
-
--- ---- sizes
--- "a whole number up to 2^62, or endless"
-abbrev pub fits : Size → Bool
-fits (finite s) = leb s (2 ^ 62)
-fits endless = true
-
-abbrev pub isEndless : Size → Bool
-isEndless (finite s) = false
-isEndless endless = true
-
-abbrev pub isOne : Size → Bool
-isOne (finite s) = eqb s 1
-isOne endless = false
-
--- "its size m finite, at most 256"
-abbrev pub few : Size → Bool
-few (finite m) = leb m 256
-few endless = false
-
-abbrev pub count : Size → ℕ
-count (finite m) = m
-count endless = 0
-
--- a dep's seconds: the m words from place b on
-abbrev pub seconds : List ℕ → ℕ → Size → List ℕ
-seconds p b m = take (count m) (drop b p)
-
--- "sum of the seconds", where z has the nodes' sizes
-unfoldable pub total : (ℕ → Size) → List ℕ → Size
-total z [] = finite 0
-total z (c ∷ cs) = plus (z c) (total z cs)
-
--- "each of those m words a lower node"
-abbrev pub allLower : ℕ → List ℕ → Bool
-allLower n = every (λ c. ltb c n)
-
--- "all finite or all endless"
-abbrev pub allFinite : (ℕ → Size) → List ℕ → Bool
-allFinite z = every (λ c. not (isEndless (z c)))
-
-abbrev pub allEndless : (ℕ → Size) → List ℕ → Bool
-allEndless z = every (λ c. isEndless (z c))
 
 -- ---- the rows
 unfoldable pub belowRow : ℕ → Row

@@ -11,7 +11,7 @@ use lib.ListN.{length, take, drop}
 use Rattle.numbers.specs.Size.{Size, plus, times, Below}
 use Rattle.grammar.specs.Table.{kindOf, nodes}
 use Rattle.grammar.specs.Node.{Node, below, nats, pool, shift, or, cons, dep, except, fix, again, unknown, nodeAt}
-use Rattle.grammar.specs.Rows.{different, fits, isEndless, isOne, few, count, seconds, total, allLower, allFinite, allEndless}
+use Rattle.grammar.specs.Checks.{different, fits, isEndless, isOne, few, count, seconds, total, allLower, allFinite, allEndless}
 
 abbrev pub Sound : List ℕ → List ℕ → (ℕ → Size) → ℕ → Node → Type 0
 Sound t p z n (below a) = (1 ≤ a) × (a ≤ 2 ^ 62)

@@ -13,7 +13,7 @@ use Rattle.numbers.specs.Size.{Size}
 use Rattle.graph.specs.Paths.{Path}
 use Rattle.grammar.specs.Table.{kindOf}
 use Rattle.grammar.specs.Node.{Node, below, nats, pool, shift, or, cons, dep, except, fix, again, unknown, nodeAt}
-use Rattle.grammar.specs.Rows.{seconds}
+use Rattle.grammar.specs.Checks.{seconds}
 
 -- "Steps of the graph go from a node to the nodes it names: to both parts, to a dep's first and each second, and from again to its fix."
 unfoldable pub steps : Bool → List ℕ → (ℕ → Size) → Node → List ℕ

@@ -3,7 +3,7 @@ ghost use mathlib.Core.Path.{_≡_};
 ghost use Prim.Native.Nat.{_+_, _-_, _≤_};
 ghost use lib.ListN.{length, take, drop};
 ghost use Rattle.graph.specs.Ways.{has};
-ghost use Rattle.grammar.specs.Rows.{different};
+ghost use Rattle.grammar.specs.Checks.{different};
 
 // Whether x is among the words from `from` up to `to`.
 fn among(pool: &[u64], from: usize, to: usize, x: u64) -> bool

@@ -75,16 +75,16 @@ fn row(table: &[u64], pool: &[u64], plan: &[u64], n: usize, kind: u64, a: u64, b
     ensures { λ r. ⌜ r ≡ coded (rowOf (now (table .entry)) (now (pool .entry)) (sizeIn (now (plan .entry))) n (nodeOf kind a b)) ⌝ }
 {
     match kind {
-        BELOW => kinds::below(a),
-        NATS => kinds::nats(),
-        POOL => kinds::pool_words(pool, a as usize, b as usize),
-        SHIFT => kinds::shift(table, plan, n, a as usize, b),
-        OR => kinds::or(plan, n, a as usize, b as usize),
-        CONS => kinds::cons(plan, n, a as usize, b as usize),
-        DEP => kinds::dep(pool, plan, n, a as usize, b as usize),
-        EXCEPT => kinds::except(plan, n, a as usize, b),
-        FIX => kinds::fix(plan, n, a as usize),
-        AGAIN => kinds::again(table, n, a as usize),
+        BELOW => kinds::below::check(a),
+        NATS => kinds::nats::check(),
+        POOL => kinds::pool::check(pool, a as usize, b as usize),
+        SHIFT => kinds::shift::check(table, plan, n, a as usize, b),
+        OR => kinds::or::check(plan, n, a as usize, b as usize),
+        CONS => kinds::cons::check(plan, n, a as usize, b as usize),
+        DEP => kinds::dep::check(pool, plan, n, a as usize, b as usize),
+        EXCEPT => kinds::except::check(plan, n, a as usize, b),
+        FIX => kinds::fix::check(plan, n, a as usize),
+        AGAIN => kinds::again::check(table, n, a as usize),
         _ => Weighed::Fault(Refusal::Kind),
     }
 }

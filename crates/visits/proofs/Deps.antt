@@ -20,11 +20,12 @@ use Rattle.numbers.specs.Dep
 use Rattle.numbers.specs.declared.cons.Pair.{Pair}
 use Rattle.numbers.proofs.size.Laws.{sized-finite}
 use Rattle.grammar.specs.Node.{dep}
-use Rattle.grammar.specs.Rows.{count, allEndless, isEndless}
+use Rattle.grammar.specs.Checks.{count, allEndless, isEndless}
 use Rattle.grammar.specs.Plan.{sizeIn}
 use Rattle.grammar.proofs.Runs.{run-long, run-at, wordAt, run-fails}
 use Rattle.grammar.proofs.Tests.{finite-word}
-use Rattle.visits.specs.Visit.{counts, secondsOf, stepOf}
+use Rattle.visits.specs.Visit.{stepOf}
+use Rattle.grammar.specs.kinds.Dep.{counts, secondsOf}
 use Rattle.visits.specs.Good.{firsts, headSize, DepReady}
 use Rattle.visits.specs.declared.step.Step.the-variants.{Two}
 

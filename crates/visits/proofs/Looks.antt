@@ -22,7 +22,8 @@ use Rattle.grammar.proofs.Runs.{run-long, run-at}
 use Rattle.numbers.specs.Size.{Size}
 use Rattle.grammar.specs.Node.{nodeOf}
 use Rattle.grammar.proofs.ByKind.{by-kind}
-use Rattle.visits.specs.Reading.{Ahead, fails, cellOf, placeOf, ahead}
+use Rattle.visits.specs.Reading.{Ahead, fails, cellOf, ahead}
+use Rattle.grammar.specs.kinds.Pool.{placeOf}
 use Rattle.visits.specs.Look.{placed, celled}
 use Rattle.visits.specs.declared.look.Place.{Place}
 use Rattle.visits.specs.declared.look.Place.the-variants.{At, Nowhere}

@@ -12,15 +12,15 @@ use lib.ListN.{length, getD, take, drop}
 use Rattle.numbers.specs.Size.{sizeOf, Some}
 use Rattle.numbers.proofs.size.Laws.{by-size}
 use Rattle.grammar.specs.Node.{nodeOf}
-use Rattle.grammar.specs.Rows.{few, isEndless, allFinite, allEndless, allLower, total}
-use Rattle.grammar.specs.Rows.{count as countOf}
+use Rattle.grammar.specs.Checks.{few, isEndless, allFinite, allEndless, allLower, total}
+use Rattle.grammar.specs.Checks.{count as countOf}
 use Rattle.grammar.specs.Plan.{sizeIn}
 use Rattle.grammar.proofs.Tests.{finite-word, endless-word}
 use Rattle.grammar.proofs.Runs.{lower-run, run-long, run-fails}
 use Rattle.visits.specs.Grammar.{planned, nodeIn}
 use Rattle.visits.specs.Good.{Fits, Single, Walkable, firsts, headSize}
 use Rattle.visits.specs.Good
-use Rattle.visits.proofs.Seconds.{else-finite, else-endless}
+use Rattle.grammar.proofs.Seconds.{else-finite, else-endless}
 
 -- a word of a size that is not 0
 pub some-word : (w : ℕ) → Some (sizeOf w) → 0 < w

@@ -17,7 +17,7 @@ use Rattle.numbers.specs.Dep
 use Rattle.numbers.proofs.size.Laws.{sized-finite}
 use Rattle.grammar.specs.Plan.{sizeIn}
 use Rattle.grammar.proofs.Runs.{run-long, run-at, wordAt}
-use Rattle.visits.specs.Visit.{counts, secondsOf}
+use Rattle.grammar.specs.kinds.Dep.{counts, secondsOf}
 use Rattle.visits.specs.Good.{firsts, headSize}
 use Rattle.visits.specs.Got.{DepJoins}
 

@@ -12,14 +12,15 @@ use Rattle.numbers.specs.Size.{Size, Below}
 use Rattle.numbers.specs.Dep
 use Rattle.numbers.proofs.dep.Laws
 use Rattle.grammar.specs.Node.{nodeOf}
-use Rattle.grammar.specs.Rows.{total}
+use Rattle.grammar.specs.Checks.{total}
 use Rattle.grammar.specs.Plan.{sizeIn}
 use Rattle.grammar.proofs.Runs.{finite-run}
-use Rattle.visits.specs.Visit.{secondsOf, stepOf}
+use Rattle.visits.specs.Visit.{stepOf}
+use Rattle.grammar.specs.kinds.Dep.{secondsOf}
 use Rattle.visits.specs.declared.step.Step.the-variants.{Cell}
 use Rattle.grammar.proofs.ByKind.{by-kind}
 use Rattle.visits.specs.Good.{Visits, firsts, DepReady}
-use Rattle.visits.proofs.Seconds.{seconds-firsts, seconds-size}
+use Rattle.grammar.proofs.Seconds.{seconds-firsts, seconds-size}
 use Rattle.visits.proofs.Nodes.{kindAt, aAt, bAt, fits-at}
 use Rattle.visits.proofs.Nodes
 

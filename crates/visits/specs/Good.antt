@@ -12,12 +12,12 @@ use Prim.Native.Nat.{ℕ, _+_, _*_, _^_, _≤_, _<_}
 use lib.ListN.{length, getD, take, drop}
 use Rattle.numbers.specs.Size.{Size, finite, endless, plus, times, less, Below, Some}
 use Rattle.grammar.specs.Node.{Node, below, nats, pool, shift, or, cons, dep, except, fix, again, unknown}
-use Rattle.grammar.specs.Rows.{different, few, seconds, total, allLower, allFinite, allEndless}
-use Rattle.grammar.specs.Rows.{count as countOf}
+use Rattle.grammar.specs.Checks.{different, few, seconds, total, allLower, allFinite, allEndless}
+use Rattle.grammar.specs.Checks.{count as countOf}
 use Rattle.numbers.specs.Dep
 use Rattle.grammar.specs.Plan.{sizeIn}
 use Rattle.visits.specs.Grammar.{Grammar, planned}
-use Rattle.visits.specs.Visit.{secondsOf}
+use Rattle.grammar.specs.kinds.Dep.{secondsOf}
 
 -- a part that is one cell
 abbrev pub Single : Node → Type 0

@@ -14,9 +14,9 @@ use Rattle.numbers.specs.Joined.{capped, limit}
 use Rattle.numbers.specs.Or.{turn}
 use Rattle.numbers.specs.Except
 use Rattle.numbers.specs.Dep
-use Rattle.grammar.specs.Rows.{allEndless}
+use Rattle.grammar.specs.Checks.{allEndless}
 use Rattle.grammar.specs.Plan.{sizeIn}
-use Rattle.visits.specs.Visit.{counts}
+use Rattle.grammar.specs.kinds.Dep.{counts}
 use Rattle.visits.specs.Good.{firsts, secondSize, headSize}
 use Rattle.numbers.specs.declared.joined.Joined.{Joined}
 use Rattle.numbers.specs.declared.joined.Joined.the-variants.{Exact, Big as Large}

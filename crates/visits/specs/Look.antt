@@ -10,7 +10,7 @@ use mathlib.Core.List.{List}
 use Prim.Native.Nat.{ℕ, _-_, _≤_, _<_}
 use lib.Dec.{ltb, leb}
 use lib.ListN.{length, getD, drop}
-use Rattle.grammar.specs.Rows.{seconds}
+use Rattle.grammar.specs.Checks.{seconds}
 use Rattle.grammar.specs.Plan.{sizeIn}
 use Rattle.visits.specs.Grammar.{nodeIn}
 use Rattle.visits.specs.Good.{Single, Walkable}
@@ -19,7 +19,7 @@ use Rattle.visits.specs.Got.{becomes}
 use Rattle.numbers.specs.Pick.{pick}
 use Rattle.graph.specs.Ways.{has}
 use Rattle.grammar.specs.declared.refusal.Refusal.the-variants.{NoRoom, NotACase}
-use Rattle.visits.specs.Reading.{placeOf}
+use Rattle.grammar.specs.kinds.Pool.{placeOf}
 use Rattle.visits.specs.declared.look.Place.{Place}
 use Rattle.visits.specs.declared.look.Place.the-variants.{At, Nowhere}
 use Rattle.visits.specs.declared.look.Celled.{Celled}

@@ -18,11 +18,12 @@ use Rattle.numbers.specs.Dep
 use Rattle.numbers.specs.Except
 use Rattle.graph.specs.Ways.{has}
 use Rattle.grammar.specs.Node.{Node, below, nats, pool, shift, or, cons, dep, except, fix, again, unknown}
-use Rattle.grammar.specs.Rows.{seconds}
+use Rattle.grammar.specs.Checks.{seconds}
+use Rattle.grammar.specs.kinds.Pool.{placeOf}
 use Rattle.grammar.specs.declared.refusal.Refusal.{Refusal}
 use Rattle.grammar.specs.declared.refusal.Refusal.the-variants.{TooDeep, NoRoom, NotACase}
 use Rattle.visits.specs.Grammar.{Grammar}
-use Rattle.visits.specs.Visit.{secondsOf}
+use Rattle.grammar.specs.kinds.Dep.{secondsOf}
 
 -- what a part's number becomes: itself; the number of an or's part 0 or 1, where the other part has size u; one less past the removed number b
 pub data Become : Type 0 where
@@ -51,11 +52,6 @@ cellOf (suc q) (c ∷ cs) f = f c q cs
 -- "a number cell not below its count", "a cell less than k under a shift or unfit after taking k off"
 abbrev pub fit : Bool → ℕ → ℕ → List ℕ → Ahead
 fit good n q cs = pick good (ends n q cs) (fails NotACase)
-
--- the place of a word among words
-unfoldable pub placeOf : ℕ → List ℕ → ℕ
-placeOf c [] = 0
-placeOf c (w ∷ ws) = pick (eqb c w) 0 (suc (placeOf c ws))
 
 -- "a tag above 1"
 abbrev pub tagOf : ℕ → ℕ → Size → Size → ℕ → ℕ → List ℕ → Ahead

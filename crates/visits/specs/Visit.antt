@@ -1,34 +1,24 @@
 -- What one visit does with a number, kind by kind.
 --   visit g i n      the step of node i at number n
---   secondsOf        a dep's seconds, by their sizes
 -- A step is a cell, a part at a number, a part at a number with k added to its cell, a tag and a part, or two parts.
 -- Assumes nothing.
-use mathlib.Core.List.{List, map}
+use mathlib.Core.List.{List}
 use Prim.Native.Nat.{ℕ, _+_}
-use lib.ListN.{length, getD}
-use Rattle.numbers.specs.Pick.{pick}
+use lib.ListN.{getD}
 use Rattle.numbers.specs.Size.{Size}
 use Rattle.numbers.specs.Or
 use Rattle.numbers.specs.Cons
 use Rattle.numbers.specs.Dep
-use Rattle.numbers.specs.Dep.{Seconds, finites, endlesses}
 use Rattle.numbers.specs.Except
 use Rattle.numbers.specs.declared.cons.Pair.{Pair}
 use Rattle.numbers.specs.declared.or.Part.{Part}
 use Rattle.numbers.specs.declared.or.Part.the-variants.{First, Second}
 use Rattle.grammar.specs.Node.{Node, below, nats, pool, shift, or, cons, dep, except, fix, again, unknown}
-use Rattle.grammar.specs.Rows.{count, seconds, allEndless}
+use Rattle.grammar.specs.Checks.{seconds}
+use Rattle.grammar.specs.kinds.Dep.{secondsOf}
 use Rattle.visits.specs.Grammar.{Grammar}
 use Rattle.visits.specs.declared.step.Step.{Step}
 use Rattle.visits.specs.declared.step.Step.the-variants.{Cell, Pass, Plus, Tag, Two}
-
--- the sizes of finite nodes cs
-abbrev pub counts : (ℕ → Size) → List ℕ → List ℕ
-counts z cs = map (λ c. count (z c)) cs
-
--- the seconds cs, of which z has the sizes
-unfoldable pub secondsOf : (ℕ → Size) → List ℕ → Seconds
-secondsOf z cs = pick (allEndless z cs) (endlesses (length cs)) (finites (counts z cs))
 
 -- "A tag cell, 0 or 1, comes first."
 abbrev pub tagged : ℕ → ℕ → Part → Step

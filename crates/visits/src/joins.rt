@@ -5,7 +5,7 @@ ghost use lib.ListN.{length, getD, take, drop};
 ghost use Rattle.numbers.specs.Cons;
 ghost use Rattle.numbers.specs.Dep;
 ghost use Rattle.grammar.specs.Plan.{sizeIn};
-ghost use Rattle.visits.specs.Visit.{counts, secondsOf};
+ghost use Rattle.grammar.specs.kinds.Dep.{counts, secondsOf};
 ghost use Rattle.visits.specs.Got.{joinedBy, DepJoins};
 use super::number::Got;
 use super::number::got_of;

@@ -1,11 +1,10 @@
 -- A writing walk over a room and a buffer.
 --   leftOf   what a walk hands back, as a word
---   lifted   k added to the buffer's first cell, if it has one
 --   Laid     what is left of the room; and where the case fits the room, its cells are over the buffer's front
 -- Assumes nothing.
 use mathlib.Core.Path.{_≡_}
-use mathlib.Core.List.{List, [], _∷_}
-use Prim.Native.Nat.{ℕ, _+_, _^_}
+use mathlib.Core.List.{List}
+use Prim.Native.Nat.{ℕ, _^_}
 use lib.Dec.{eqb, ltb}
 use lib.ListN.{length}
 use Rattle.numbers.specs.Pick.{pick}
@@ -16,10 +15,6 @@ use Rattle.walk.specs.Filled.{over}
 -- the code's word
 abbrev pub leftOf : ℕ → RoomLeft
 leftOf w = pick (ltb w (2 ^ 63)) (Left w) (pick (eqb w (2 ^ 63)) TooDeep NoRoom)
-
-abbrev pub lifted : ℕ → List ℕ → List ℕ
-lifted k [] = []
-lifted k (c ∷ cs) = (c + k) ∷ cs
 
 pub record Laid (room : ℕ) (es : List Event) (old last : List ℕ) (r : RoomLeft) : Type 0 where
   pub is : r ≡ tallied room es

@@ -1,9 +1,8 @@
--- Document 01, "From a number to cells": what a visit does with a number, and the walk.
+-- The two walks over rules, and what the contracts of the code cite.
 pub mod Walk
+pub mod Run
 pub mod Room
 pub mod Filled
 pub mod Laid
-pub mod Follow
-pub mod Leaf
-pub mod Trail
-pub mod Sure
+pub mod Took
+pub mod Plan

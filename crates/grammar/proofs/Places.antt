@@ -1,0 +1,73 @@
+-- The search for a word's place.
+--   Placing                  what the loop has shown, and its turns
+--   word-there, word-nowhere what a search has found
+-- Assumes nothing.
+use mathlib.Core.Path.{_≡_, refl, sym, subst, _∙_}
+use mathlib.Core.Bool.{Bool, true, false}
+use mathlib.Core.List.{List, _∷_}
+use Prim.Native.Nat.{ℕ, suc, _+_, _≤_, _<_}
+use native.Mathlib.Numerals.{add-one}
+use native.Mathlib.Omega.{arith}
+use lib.ListN.{length, getD, take, drop, drop-of-length-le}
+use lib.Seq.{drop-cons}
+use borrow.Author.Tests.{eq-eqb, ne-eqb}
+use Rattle.numbers.specs.Pick.{pick}
+use Rattle.graph.specs.Ways.{has}
+use Rattle.grammar.specs.kinds.Pool.{placeOf}
+use Rattle.grammar.specs.Placed.{placed}
+use Rattle.grammar.specs.declared.kinds.pool.Place.{Place}
+use Rattle.grammar.specs.declared.kinds.pool.Place.the-variants.{At, Nowhere}
+use Rattle.grammar.proofs.Runs.{run-long, run-at}
+
+pub record Placing (p : List ℕ) (at count c k : ℕ) : Type 0 where
+  pub le : k ≤ count
+  pub there : has c (take count (drop at p)) ≡ has c (drop k (take count (drop at p)))
+  pub place : placeOf c (take count (drop at p)) ≡ k + placeOf c (drop k (take count (drop at p)))
+
+pub placing-none : {p : List ℕ} {at count c : ℕ} → Placing p at count c 0
+placing-none = record { le = omega arith; there = refl; place = omega arith }
+
+module _ {p : List ℕ} {at count c k : ℕ} (in-p : at + count ≤ length p) (s : Placing p at count c k) where
+  module _ (l : k < count) where
+    here : drop k (take count (drop at p)) ≡ getD p (at + k) 0 ∷ drop (suc k) (take count (drop at p))
+    here = drop-cons (take count (drop at p)) k 0 (omega (arith, run-long p at count in-p)) ∙ rw (run-at p at count in-p k l)
+
+    pub placing-found : getD p (at + k) 0 ≡ c → At k ≡ placed c (take count (drop at p))
+    unfolding has placeOf
+    placing-found e =
+        let z : k + 0 ≡ k = omega arith in
+        rw (s .there, s .place, here, eq-eqb c (getD p (at + k) 0) (sym e), z)
+
+    pub placing-more : (getD p (at + k) 0 ≡ c → ⊥) → Placing p at count c (k + 1)
+    unfolding has placeOf
+    placing-more f =
+        let n = ne-eqb c (getD p (at + k) 0) (λ e. f (sym e)) in
+        let r = placeOf c (drop (suc k) (take count (drop at p))) in
+        let z : k + suc r ≡ suc k + r = omega arith in
+        record { le = omega arith; there = s .there ∙ rw (here, n, add-one); place = s .place ∙ rw (here, n, add-one, z) }
+
+  pub placing-end : count ≤ k → Nowhere ≡ placed c (take count (drop at p))
+  unfolding has
+  placing-end l = rw (s .there, drop-of-length-le (take count (drop at p)) {i = k} (omega (arith, run-long p at count in-p)))
+
+-- ---- what a search has found
+abbrev Stands : ℕ → List ℕ → Place → Type 0
+Stands c ws (At k) = (has c ws ≡ true) × (placeOf c ws ≡ k)
+Stands c ws Nowhere = has c ws ≡ false
+
+stands : (c : ℕ) (ws : List ℕ) → Stands c ws (placed c ws)
+stands c ws = by (has c ws) refl
+  where
+    by : (q : Bool) → has c ws ≡ q → Stands c ws (pick q (At (placeOf c ws)) Nowhere)
+    by true e = (e, refl)
+    by false e = e
+
+module _ (c : ℕ) (ws : List ℕ) {r : Place} (e : r ≡ placed c ws) where
+  stood : (s : Place) → r ≡ s → Stands c ws s
+  stood s q = subst (Stands c ws) (sym e ∙ q) (stands c ws)
+
+  pub word-there : {k : ℕ} → r ≡ At k → (has c ws ≡ true) × (placeOf c ws ≡ k)
+  word-there {k} q = stood (At k) q
+
+  pub word-nowhere : r ≡ Nowhere → has c ws ≡ false
+  word-nowhere q = stood Nowhere q

@@ -1,0 +1,22 @@
+-- `grammar::kinds::again::check` is the row of again.
+-- Assumes nothing.
+use borrow.Author.Needs.{needs}
+use Rattle.grammar.proofs.Tests.{tests}
+use Rattle.grammar.specs.Checks.{row}
+use Rattle.grammar.specs.Rows.{againRow}
+use Rattle.grammar.specs.Plan.{coded}
+use Rattle.grammar.proofs.kinds.again.check.Statement.{statement}
+use Rattle.grammar.proofs.kinds.again.check.Tie as tie
+
+pub check-spec : {M : Type 1} → statement M
+unfolding againRow row coded
+check-spec =
+    tie.close
+    (tie.spec
+    (λ c. search tests)
+    (λ c. search tests)
+    (λ c. search needs)
+    (λ c. search needs)
+    (λ c. search needs)
+    (λ c. search tests)
+    (λ c. search tests))

@@ -1,0 +1,15 @@
+-- `grammar::kinds::nats::check` is the row of nats.
+-- Assumes nothing.
+use mathlib.Core.Path.{refl}
+use Rattle.grammar.specs.Checks.{row}
+use Rattle.grammar.specs.Rows.{natsRow}
+use Rattle.grammar.specs.Plan.{coded}
+use Rattle.grammar.proofs.kinds.nats.check.Statement.{statement}
+use Rattle.grammar.proofs.kinds.nats.check.Tie as tie
+
+pub check-spec : {M : Type 1} → statement M
+unfolding natsRow row coded
+check-spec =
+    tie.close
+    (tie.spec
+    (λ c. refl))

@@ -1,0 +1,21 @@
+-- The law of again.
+-- Assumes nothing.
+use mathlib.Core.Bool.{_&&_}
+use lib.Dec.{ltb}
+use borrow.Author.Tests.{ltb-true, eqb-true}
+use Rattle.grammar.proofs.Tests.{and-left, and-right}
+use Rattle.grammar.specs.Rule.{own}
+use Rattle.grammar.proofs.KindLaw.{KindLaw}
+use Rattle.grammar.specs.kinds.Fix.{passRule}
+use Rattle.grammar.specs.kinds.Again.{again}
+use Rattle.grammar.proofs.laws.Fix.{pass-rule}
+
+pub again-law : KindLaw again
+again-law = record {
+  lawful = λ v z r h.
+      let l = and-left (ltb (v .own) (v .a) && ltb (v .a) (v .nodes)) _ (h .0) in
+      let la = ltb-true (v .a) (v .nodes) (and-right (ltb (v .own) (v .a)) _ l) in
+      let k = eqb-true (v .kind (v .a)) 8 (and-right (ltb (v .own) (v .a) && ltb (v .a) (v .nodes)) _ (h .0)) in
+      pass-rule z (v .nodes) (v .a) la (r .fixes (v .a) la k);
+  fit = λ v z f h. unfold passRule in tt;
+}

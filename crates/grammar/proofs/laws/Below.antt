@@ -1,0 +1,33 @@
+-- The law of below.
+-- Assumes nothing.
+use mathlib.Core.Path.{_≡_, refl}
+use mathlib.Core.List.{[], _∷_}
+use Prim.Native.Nat.{ℕ, _^_, _<_}
+use lib.Dec.{ltb, leb}
+use borrow.Author.Tests.{ltb-true, leb-true, lt-ltb}
+use Rattle.numbers.specs.Pick.{pick}
+use Rattle.numbers.specs.Size.{Size}
+use Rattle.grammar.proofs.Tests.{and-left, and-right}
+use Rattle.grammar.specs.Rule.{own, done, fails, reads}
+use Rattle.grammar.specs.Law.{Lawful}
+use Rattle.grammar.proofs.Trees.{spell-done, spell-takes, spell-left, read-pick, names-pick}
+use Rattle.grammar.proofs.KindLaw.{KindLaw}
+use Rattle.grammar.specs.kinds.Below.{belowRule, below}
+
+below-rule : (z : ℕ → Size) (count a : ℕ) → Lawful z count (belowRule a)
+unfolding belowRule
+below-rule z count a = record {
+  writes = λ n h. spell-takes z (λ c. pick (ltb c a) (done c) fails) n (spell-left z (ltb n a) (done n) fails (lt-ltb n a h) (spell-done z n));
+  reads = λ w. read-pick z (λ n is. (n < a) × (own n ∷ [] ≡ own (w .0) ∷ is)) (ltb (w .0) a) (done (w .0)) fails (λ e v. (ltb-true (w .0) a e, refl)) (λ e v. absurd v) (w .1);
+  names = λ c. names-pick z [] (ltb c a) (done c) fails tt tt;
+  meets = tt;
+  inside = tt;
+  among = λ p m. m;
+  falls = λ n h. tt;
+}
+
+pub below-law : KindLaw below
+below-law = record {
+  lawful = λ v z r h. below-rule z (v .nodes) (v .a);
+  fit = λ v z f h. unfold belowRule in (leb-true 1 (v .a) (and-left _ _ (h .0)), leb-true (v .a) (2 ^ 62) (and-right (leb 1 (v .a)) _ (h .0)));
+}

@@ -1,0 +1,25 @@
+-- The law of nats.
+-- Assumes nothing.
+use mathlib.Core.Path.{refl}
+use Prim.Native.Nat.{ℕ}
+use Rattle.numbers.specs.Size.{Size}
+use Rattle.grammar.specs.Rule.{done, reads}
+use Rattle.grammar.specs.Law.{Lawful}
+use Rattle.grammar.proofs.Trees.{spell-done, spell-takes}
+use Rattle.grammar.proofs.KindLaw.{KindLaw}
+use Rattle.grammar.specs.kinds.Nats.{natsRule, nats}
+
+nats-rule : (z : ℕ → Size) (count : ℕ) → Lawful z count natsRule
+unfolding natsRule
+nats-rule z count = record {
+  writes = λ n h. spell-takes z (λ c. done c) n (spell-done z n);
+  reads = λ w. (tt, refl);
+  names = λ c. tt;
+  meets = tt;
+  inside = tt;
+  among = λ p m. m;
+  falls = λ n h. tt;
+}
+
+pub nats-law : KindLaw nats
+nats-law = record { lawful = λ v z r h. nats-rule z (v .nodes); fit = λ v z f h. unfold natsRule in tt }

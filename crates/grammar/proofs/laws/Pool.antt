@@ -1,0 +1,53 @@
+-- The law of pool.
+-- Assumes nothing.
+use mathlib.Core.Path.{_≡_}
+use mathlib.Core.Bool.{true, _&&_}
+use mathlib.Core.List.{List, [], _∷_}
+use Prim.Native.Nat.{ℕ, _+_, _≤_, _<_}
+use native.Mathlib.Omega.{arith}
+use lib.Dec.{leb}
+use lib.ListN.{length, getD, take, drop}
+use borrow.Author.Tests.{leb-true}
+use Rattle.numbers.specs.Pick.{pick}
+use Rattle.numbers.specs.Size.{Size}
+use Rattle.grammar.proofs.Tests.{and-left, and-right}
+use Rattle.grammar.specs.Rule.{own, done, fails, reads}
+use Rattle.grammar.specs.Law.{Lawful}
+use Rattle.grammar.proofs.Trees.{spell-done, spell-takes, spell-left, read-pick, names-pick}
+use Rattle.grammar.proofs.KindLaw.{KindLaw}
+use Rattle.graph.specs.Ways.{has}
+use Rattle.grammar.specs.Checks.{different}
+use Rattle.grammar.proofs.Runs.{run-long}
+use Rattle.grammar.specs.kinds.Pool.{placeOf, poolRule, pool}
+use Rattle.grammar.proofs.Words.{place-in, word-at, word-in, place-word}
+
+module _ (z : ℕ → Size) (count b : ℕ) (ws : List ℕ) (long : length ws ≡ b) (diff : different ws ≡ true) where
+  pool-rule : Lawful z count (poolRule ws b)
+  unfolding poolRule
+  pool-rule = record {
+    writes = λ n h.
+        let l : n < length ws = rw long h in
+        spell-takes z (λ c. pick (has c ws) (done (placeOf c ws)) fails) (getD ws n 0)
+        (spell-left z (has (getD ws n 0) ws) (done (placeOf (getD ws n 0) ws)) fails (word-in ws n l)
+        (rw (place-word ws n l diff) (spell-done z n)));
+    reads = λ w. read-pick z (λ n is. (n < b) × (own (getD ws n 0) ∷ [] ≡ own (w .0) ∷ is)) (has (w .0) ws) (done (placeOf (w .0) ws)) fails
+        (λ e v. (rw long at (place-in (w .0) ws e), rw (word-at (w .0) ws e)))
+        (λ e v. absurd v) (w .1);
+    names = λ c. names-pick z [] (has c ws) (done (placeOf c ws)) fails tt tt;
+    meets = tt;
+    inside = tt;
+    among = λ p m. m;
+    falls = λ n h. tt;
+  }
+
+pub pool-law : KindLaw pool
+pool-law = record {
+  lawful = λ v z r h.
+      let l = leb-true (v .a + v .b) (length (v .pool)) (and-right (leb 1 (v .b) && leb (v .b) 4096) _ (h .0)) in
+      pool-rule z (v .nodes) (v .b) (take (v .b) (drop (v .a) (v .pool))) (run-long (v .pool) (v .a) (v .b) l) (h .1 .0);
+  fit = λ v z f h. unfold poolRule in
+      let l = and-left (leb 1 (v .b) && leb (v .b) 4096) _ (h .0) in
+      let lo = leb-true 1 (v .b) (and-left (leb 1 (v .b)) _ l) in
+      let hi = leb-true (v .b) 4096 (and-right (leb 1 (v .b)) _ l) in
+      (omega arith, omega arith);
+}

@@ -1,0 +1,147 @@
+// 6 dep | node, place | a lower (4); its size m finite, at most 256 (7); b+m within the pool (5); each of those m words
+// a lower node (4); all finite or all endless (7); size (8) | sum of the seconds
+ghost use mathlib.Core.Path.{_≡_};
+ghost use mathlib.Core.List.{[], _∷_};
+ghost use Prim.Native.Nat.{ℕ, _+_, _*_, _^_, _<_, _≤_};
+ghost use lib.ListN.{length, getD, take, drop};
+ghost use Rattle.numbers.specs.Joined.{capped};
+ghost use Rattle.numbers.specs.Dep.{inTurn};
+ghost use Rattle.numbers.specs.Dep;
+ghost use Rattle.grammar.specs.Checks.{allLower, asks};
+ghost use Rattle.grammar.specs.Rows.{further, secondsRow, depRow};
+ghost use Rattle.grammar.specs.Plan.{sizeIn, coded};
+ghost use Rattle.grammar.specs.kinds.Dep.{counts, secondsOf};
+ghost use Rattle.grammar.specs.Seconds.{firsts, DepIn};
+ghost use Rattle.grammar.specs.declared.refusal.Refusal.the-variants.{Reference};
+use super::super::refusal::Refusal;
+use super::Weighed;
+use numbers::cons::Pair;
+use numbers::joined::Joined;
+use numbers::size::ENDLESS;
+use numbers::size::LARGEST;
+
+// "its size m finite, at most 256"
+const MOST_FIRSTS: u64 = 256;
+
+pub fn check(pool: &[u64], plan: &[u64], n: usize, a: usize, b: usize) -> Weighed
+    requires { ⌜ 4 * n ≤ length (now plan) ⌝ }
+    ensures { λ r. ⌜ r ≡ coded (depRow (now (pool .entry)) (sizeIn (now (plan .entry))) n a b) ⌝ }
+{
+    if n <= a {
+        return Weighed::Fault(Refusal::Reference);
+    }
+    let s = plan[4 * a + 3];
+    if MOST_FIRSTS < s {
+        return Weighed::Fault(Refusal::UnsuitedPart);
+    }
+    let m = s as usize;
+    if pool.len() < m {
+        return Weighed::Fault(Refusal::Range);
+    }
+    if pool.len() - m < b {
+        return Weighed::Fault(Refusal::Range);
+    }
+    seconds(pool, plan, n, b, m)
+}
+
+// The rest of a dep's row, in one pass over its seconds. "each of those m words a lower node" comes before "all finite or all endless",
+// so a second that is not lower refuses at once, and the sizes are judged after the last one.
+fn seconds(pool: &[u64], plan: &[u64], n: usize, at: usize, count: usize) -> Weighed
+    requires { ⌜ (at + count ≤ length (now pool)) × (4 * n ≤ length (now plan)) ⌝ }
+    ensures { λ r. ⌜ r ≡ coded (further (asks (allLower n (take count (drop at (now (pool .entry))))) Reference ∷ []) (secondsRow (sizeIn (now (plan .entry))) (take count (drop at (now (pool .entry)))))) ⌝ }
+{
+    // How many are finite so far, and their sum.
+    let mut finite = 0;
+    let mut sum: u64 = 0;
+    for i in 0..count {
+        let k = pool[at + i] as usize;
+        if n <= k {
+            return Weighed::Fault(Refusal::Reference);
+        }
+        let s = plan[4 * k + 3];
+        if s < ENDLESS {
+            finite += 1;
+            // Past 2^62 it grows no more, so it cannot overflow.
+            if sum <= LARGEST {
+                sum += s;
+            }
+        }
+    }
+    if finite == count {
+        if LARGEST < sum {
+            return Weighed::Fault(Refusal::TooLarge);
+        }
+        return Weighed::Of(sum);
+    }
+    if finite == 0 {
+        return Weighed::Of(ENDLESS);
+    }
+    Weighed::Fault(Refusal::UnsuitedPart)
+}
+
+// "Seconds finite: all pairs of first 0, then of first 1, and so on."
+fn in_turn(plan: &[u64], pool: &[u64], at: usize, count: usize, n: u64) -> Pair
+    requires { ⌜ at + count ≤ length (now pool) ⌝ }
+    requires { ⌜ ((i : ℕ) → i < count → 4 * getD (now pool) (at + i) 0 + 3 < length (now plan)) ⌝ }
+    requires { ⌜ ((i : ℕ) → i < count → getD (now plan) (4 * getD (now pool) (at + i) 0 + 3) 0 < 2 ^ 63) ⌝ }
+    ensures { λ r. ⌜ r ≡ inTurn (counts (sizeIn (now (plan .entry))) (take count (drop at (now (pool .entry))))) n ⌝ }
+{
+    let mut rest = n;
+    for k in 0..count {
+        let c = pool[at + k] as usize;
+        let s = plan[4 * c + 3];
+        if rest < s {
+            return Pair {
+                first: k as u64,
+                second: rest,
+            };
+        }
+        rest -= s;
+    }
+    Pair {
+        first: count as u64,
+        second: rest,
+    }
+}
+
+// The two parts' numbers, by the seconds' sizes: "Seconds endless: first n mod m, second n div m."
+pub fn parts(plan: &[u64], pool: &[u64], a: usize, b: usize, n: u64) -> Pair
+    requires { ⌜ DepIn (now plan) (now pool) a b ⌝ }
+    ensures { λ r. ⌜ r ≡ Dep.split (secondsOf (sizeIn (now (plan .entry))) (take (firsts (now (plan .entry)) a) (drop b (now (pool .entry))))) n ⌝ }
+{
+    let m = plan[4 * a + 3];
+    let c = pool[b] as usize;
+    if plan[4 * c + 3] < ENDLESS {
+        return in_turn(plan, pool, b, m as usize, n);
+    }
+    numbers::dep::split_endless(m, n)
+}
+
+// The sum of the sizes of a dep's seconds before the one at x.
+fn before(plan: &[u64], pool: &[u64], b: usize, x: usize) -> u64
+    requires { ⌜ b + x ≤ length (now pool) ⌝ }
+    requires { ⌜ ((j : ℕ) → j < x → 4 * getD (now pool) (b + j) 0 + 3 < length (now plan)) ⌝ }
+    requires { ⌜ ((j : ℕ) → j < x → getD (now plan) (4 * getD (now pool) (b + j) 0 + 3) 0 < 2 ^ 63) ⌝ }
+    requires { ⌜ Dep.total (counts (sizeIn (now plan)) (take x (drop b (now pool)))) < 2 ^ 63 ⌝ }
+    ensures { λ r. ⌜ r ≡ Dep.total (counts (sizeIn (now (plan .entry))) (take x (drop b (now (pool .entry))))) ⌝ }
+{
+    let mut sum = 0;
+    for j in 0..x {
+        let c = pool[b + j] as usize;
+        sum += plan[4 * c + 3];
+    }
+    sum
+}
+
+// The number of a dep's case: x is the first part's number, y that of the second that it chooses.
+pub fn join(plan: &[u64], pool: &[u64], a: usize, b: usize, x: u64, y: u64) -> Joined
+    requires { ⌜ DepIn (now plan) (now pool) a b × (x < firsts (now plan) a) ⌝ }
+    ensures { λ r. ⌜ r ≡ capped (Dep.join (secondsOf (sizeIn (now (plan .entry))) (take (firsts (now (plan .entry)) a) (drop b (now (pool .entry))))) x y) ⌝ }
+{
+    let head = pool[b] as usize;
+    if plan[4 * head + 3] < ENDLESS {
+        let sum = before(plan, pool, b, x as usize);
+        return numbers::dep::join_finite(sum, y);
+    }
+    numbers::dep::join_endless(plan[4 * a + 3], x, y)
+}

@@ -1,0 +1,30 @@
+// 7 except | node, number | a lower (4); size of a not 1 (7); b below that size and below 2^62 (5) | one less
+ghost use mathlib.Core.Path.{_≡_};
+ghost use Prim.Native.Nat.{_+_, _*_, _≤_};
+ghost use lib.ListN.{length};
+ghost use Rattle.grammar.specs.Rows.{exceptRow};
+ghost use Rattle.grammar.specs.Plan.{sizeIn, coded};
+use super::super::refusal::Refusal;
+use super::Weighed;
+use numbers::size;
+use numbers::size::LARGEST;
+
+pub fn check(plan: &[u64], n: usize, a: usize, b: u64) -> Weighed
+    requires { ⌜ 4 * n ≤ length (now plan) ⌝ }
+    ensures { λ r. ⌜ r ≡ coded (exceptRow n a b (sizeIn (now (plan .entry)) a)) ⌝ }
+{
+    if n <= a {
+        return Weighed::Fault(Refusal::Reference);
+    }
+    let s = plan[4 * a + 3];
+    if s == 1 {
+        return Weighed::Fault(Refusal::UnsuitedPart);
+    }
+    if s <= b {
+        return Weighed::Fault(Refusal::Range);
+    }
+    if LARGEST <= b {
+        return Weighed::Fault(Refusal::Range);
+    }
+    Weighed::Of(size::one_less(s))
+}

@@ -1,0 +1,24 @@
+// 4 or | nodes | both lower (4); size (8) | sum
+ghost use mathlib.Core.Path.{_≡_};
+ghost use Prim.Native.Nat.{_+_, _*_, _≤_};
+ghost use lib.ListN.{length};
+ghost use Rattle.grammar.specs.Rows.{orRow};
+ghost use Rattle.grammar.specs.Plan.{sizeIn, coded};
+use super::super::refusal::Refusal;
+use super::Weighed;
+use super::of_measured;
+use numbers::size;
+
+pub fn check(plan: &[u64], n: usize, a: usize, b: usize) -> Weighed
+    requires { ⌜ 4 * n ≤ length (now plan) ⌝ }
+    ensures { λ r. ⌜ r ≡ coded (orRow n a b (sizeIn (now (plan .entry)) a) (sizeIn (now (plan .entry)) b)) ⌝ }
+{
+    if n <= a {
+        return Weighed::Fault(Refusal::Reference);
+    }
+    if n <= b {
+        return Weighed::Fault(Refusal::Reference);
+    }
+    let m = size::sum(plan[4 * a + 3], plan[4 * b + 3]);
+    of_measured(m)
+}

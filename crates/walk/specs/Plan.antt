@@ -1,0 +1,32 @@
+-- What the code of the walks needs of a plan, and of one visit.
+--   Walkable   the nodes of a plan have passed their checks, and keep the law
+--   Reading    a node of it
+--   Visits     and a number below its size
+-- Assumes nothing.
+use mathlib.Core.List.{List}
+use Prim.Native.Nat.{ℕ, _*_, _≤_, _<_}
+use lib.ListN.{length}
+use Rattle.numbers.specs.Size.{Below, Some}
+use Rattle.grammar.specs.Law.{Good}
+use Rattle.grammar.specs.Kind.{before, Holds}
+use Rattle.grammar.specs.Nodes.{kindIn}
+use Rattle.grammar.specs.Plan.{sizeIn, kindWord, nodeIn, ruleIn}
+
+-- short, slight: places in plan and pool fit a word, however they are lent
+pub record Walkable (plan p : List ℕ) : Type 0 where
+  pub count : ℕ
+  pub long : 4 * count ≤ length plan
+  pub good : Good (sizeIn plan) count (ruleIn plan p)
+  pub holds : (i : ℕ) → i < count → Holds (kindIn (kindWord plan i) .checks (nodeIn plan p count i) (before (sizeIn plan) i))
+  pub some : (i : ℕ) → i < count → Some (sizeIn plan i)
+  pub short : length plan ≤ 1024
+  pub slight : length p ≤ 4096
+
+pub record Reading (plan p : List ℕ) (i : ℕ) : Type 0 where
+  pub walks : Walkable plan p
+  pub node : i < walks .count
+
+pub record Visits (plan p : List ℕ) (i n : ℕ) : Type 0 where
+  pub walks : Walkable plan p
+  pub node : i < walks .count
+  pub below : Below n (sizeIn plan i)
