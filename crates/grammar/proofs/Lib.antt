@@ -18,3 +18,5 @@ pub mod Kept
 pub mod Turns
 pub mod Joins
 pub mod Places
+pub mod Known
+pub mod Stepping

@@ -7,6 +7,7 @@ pub mod Kind
 pub mod kinds
 pub mod Nodes
 pub mod Law
+pub mod Checked
 pub mod Node
 pub mod Used
 pub mod Rows
@@ -17,3 +18,4 @@ pub mod Verdict
 pub mod Plan
 pub mod Seconds
 pub mod Placed
+pub mod Named

@@ -18,7 +18,7 @@ use Rattle.grammar.specs.Checks.{Row, fault, sized}
 use Rattle.grammar.specs.Rule.{Rule}
 use Rattle.grammar.specs.Kind.{Node, before}
 use Rattle.grammar.specs.Nodes.{kindIn}
-use Rattle.grammar.specs.Sound.{Checked}
+use Rattle.grammar.specs.Checked.{Checked}
 use Rattle.grammar.specs.Sizes.{sizeAt, scan, passed, faulty, sizes}
 use Rattle.numbers.specs.declared.size.Measured.{Measured}
 use Rattle.numbers.specs.declared.size.Measured.the-variants.{Of as Measures, Past}

@@ -7,13 +7,14 @@
 use mathlib.Core.Bool.{Bool, true, false, _&&_}
 use mathlib.Core.List.{List}
 use Prim.Native.Nat.{ℕ}
-use lib.Dec.{eqb, ltb}
+use lib.Dec.{ltb}
 use Rattle.numbers.specs.Pick.{pick}
 use Rattle.numbers.specs.Size.{Size}
 use Rattle.graph.specs.Ways.{via}
 use Rattle.graph.specs.Lowest.{lowest}
-use Rattle.grammar.specs.Table.{kindOf, nodes, lengths}
+use Rattle.grammar.specs.Table.{nodes, lengths}
 use Rattle.grammar.specs.Sizes.{Scan, passed, faulty, sizeAt, scan}
+use Rattle.grammar.specs.Nodes.{ruleAt}
 use Rattle.grammar.specs.Steps.{stepsOf}
 use Rattle.grammar.specs.Refusals.{numberOf}
 use Rattle.grammar.specs.declared.refusal.Refusal.the-variants.{Length, Unguarded, ExceptOnCycle}
@@ -29,7 +30,7 @@ unguarded t p z = lowest (λ n. leads false t p z n n) (nodes t)
 
 -- "naming the lowest such except"
 unfoldable pub exceptOnCycle : List ℕ → List ℕ → (ℕ → Size) → ℕ
-exceptOnCycle t p z = lowest (λ n. eqb (kindOf t n) 7 && leads true t p z n n) (nodes t)
+exceptOnCycle t p z = lowest (λ n. ruleAt t p z n .skips && leads true t p z n n) (nodes t)
 
 -- any 9 comes before any 10
 abbrev pub ruled : ℕ → ℕ → Verdict

@@ -4,3 +4,4 @@ pub mod kinds;
 pub mod loops;
 pub mod plan;
 pub mod refusal;
+pub mod steps;

@@ -1,19 +1,23 @@
 // 6 dep | node, place | a lower (4); its size m finite, at most 256 (7); b+m within the pool (5); each of those m words
 // a lower node (4); all finite or all endless (7); size (8) | sum of the seconds
 ghost use mathlib.Core.Path.{_≡_};
-ghost use mathlib.Core.List.{[], _∷_};
+ghost use mathlib.Core.List.{List, [], _∷_};
 ghost use Prim.Native.Nat.{ℕ, _+_, _*_, _^_, _<_, _≤_};
 ghost use lib.ListN.{length, getD, take, drop};
 ghost use Rattle.numbers.specs.Joined.{capped};
 ghost use Rattle.numbers.specs.Dep.{inTurn};
 ghost use Rattle.numbers.specs.Dep;
 ghost use Rattle.grammar.specs.Checks.{allLower, asks};
+ghost use Rattle.grammar.specs.Checks.{count as countOf};
+ghost use Rattle.grammar.specs.Checks.{seconds as secondsFrom};
+ghost use Rattle.grammar.specs.Named.{Names};
 ghost use Rattle.grammar.specs.Rows.{further, secondsRow, depRow};
 ghost use Rattle.grammar.specs.Plan.{sizeIn, coded};
 ghost use Rattle.grammar.specs.kinds.Dep.{counts, secondsOf};
 ghost use Rattle.grammar.specs.Seconds.{firsts, DepIn};
 ghost use Rattle.grammar.specs.declared.refusal.Refusal.the-variants.{Reference};
 use super::super::refusal::Refusal;
+use super::super::steps::Named;
 use super::Weighed;
 use numbers::cons::Pair;
 use numbers::joined::Joined;
@@ -144,4 +148,19 @@ pub fn join(plan: &[u64], pool: &[u64], a: usize, b: usize, x: u64, y: u64) -> J
         return numbers::dep::join_finite(sum, y);
     }
     numbers::dep::join_endless(plan[4 * a + 3], x, y)
+}
+
+// "to a dep's first and each second"
+pub fn steps(plan: &[u64], a: usize, b: usize) -> Named
+    requires { ⌜ 4 * a + 3 < length (now plan) ⌝ }
+    ensures { λ r. ⌜ ((p : List ℕ) → b + firsts (now (plan .entry)) a ≤ length p → countOf (sizeIn (now (plan .entry)) a) ≡ firsts (now (plan .entry)) a → Names p (a ∷ secondsFrom p b (sizeIn (now (plan .entry)) a)) r) ⌝ }
+{
+    Named {
+        first: true,
+        second: false,
+        a,
+        b: 0,
+        at: b,
+        count: plan[4 * a + 3] as usize,
+    }
 }

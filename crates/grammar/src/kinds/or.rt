@@ -1,10 +1,16 @@
 // 4 or | nodes | both lower (4); size (8) | sum
 ghost use mathlib.Core.Path.{_≡_};
-ghost use Prim.Native.Nat.{_+_, _*_, _≤_};
+ghost use mathlib.Core.List.{List, [], _∷_};
+ghost use Prim.Native.Nat.{ℕ, _+_, _*_, _≤_};
 ghost use lib.ListN.{length};
+ghost use Rattle.numbers.specs.Pick.{pick};
 ghost use Rattle.grammar.specs.Rows.{orRow};
 ghost use Rattle.grammar.specs.Plan.{sizeIn, coded};
+ghost use Rattle.grammar.specs.Named.{Names};
 use super::super::refusal::Refusal;
+use super::super::steps::Named;
+use super::super::steps::one;
+use super::super::steps::two;
 use super::Weighed;
 use super::of_measured;
 use numbers::size;
@@ -21,4 +27,14 @@ pub fn check(plan: &[u64], n: usize, a: usize, b: usize) -> Weighed
     }
     let m = size::sum(plan[4 * a + 3], plan[4 * b + 3]);
     of_measured(m)
+}
+
+// "to both parts"; a step to the second part guards a cycle.
+pub fn steps(a: usize, b: usize, guarded: bool) -> Named
+    ensures { λ r. ⌜ ((p : List ℕ) → Names p (a ∷ pick guarded (b ∷ []) []) r) ⌝ }
+{
+    if guarded {
+        return two(a, b);
+    }
+    one(a)
 }
