@@ -1,12 +1,12 @@
 -- A search of a checked table, and its cycles: what `Search`, `Paths` and `Lowest` say of any graph, of a table's.
 --   Sought               what holds at the head of the search's loop; its turns, by the facts that the code has
 --   cycle-in             a node on a cycle is in the table
---   Passed               of the nodes below n, none of a kind is on a cycle
---   lowest-again         the lowest node of a cycle is an again
+--   Passed               of the nodes below n, none that is asked is on a cycle
+--   lowest-again         the lowest node of a cycle is an again; lowest-except
 --   cycles-..            the verdict on cycles, by what was found
 -- Assumes nothing.
-use mathlib.Core.Path.{_≡_}
-use mathlib.Core.Bool.{Bool, true, false, not, _&&_}
+use mathlib.Core.Path.{_≡_, sym, _∙_}
+use mathlib.Core.Bool.{Bool, true, false, not, _&&_, false≢true}
 use mathlib.Core.List.{List}
 use Prim.Native.Nat.{ℕ, _+_, _*_, _-_, _≤_, _<_, zero-le}
 use native.Mathlib.Nat.{le-refl, lt-irrefl}
@@ -24,20 +24,23 @@ use Rattle.graph.proofs.Paths.{carry-from, lowest-on}
 use Rattle.graph.proofs.Search.{Searching, Finite, search-start, search-skip, search-open, search-end}
 use Rattle.graph.proofs.Ways.{via-decide}
 use Rattle.graph.proofs.Lowest.{lowest-of, lowest-one, nowhere}
-use Rattle.grammar.specs.Table.{kindOf, nodes}
-use Rattle.grammar.specs.Sound.{Checked}
-use Rattle.grammar.specs.Steps.{stepsOf, Step, Leads, KindOnCycle, Unguarded, ExceptOnCycle}
+use Rattle.grammar.specs.Table.{kindOf, aOf, bOf, nodes}
+use Rattle.grammar.specs.Kind.{before}
+use Rattle.grammar.specs.Nodes.{kindIn, ruleAt}
+use Rattle.grammar.specs.Checked.{Checked}
+use Rattle.grammar.specs.Steps.{stepsOf, Step, Leads, Unguarded, ExceptOnCycle}
 use Rattle.grammar.specs.Plan.{sizeIn, Ready}
 use Rattle.grammar.specs.Verdict.{leads, unguarded, exceptOnCycle, cycles}
 use Rattle.grammar.specs.declared.refusal.Refusal.the-variants.{Unguarded as Rule9, ExceptOnCycle as Rule10}
 use Rattle.grammar.specs.declared.refusal.Verdict.the-variants.{Accepted, Refused}
 use Rattle.grammar.proofs.Tests.{and-left, and-right}
 use Rattle.numbers.specs.Size.{Size}
-use Rattle.cycles.proofs.Steps.{step-lower, step-to}
+use Rattle.cycles.specs.Asked.{asked, OnCycle}
+use Rattle.cycles.proofs.Steps.{step-down, step-to}
 
 -- ---- the graph of a checked table
 pub graph : (guarded : Bool) {t p : List ℕ} {z : ℕ → Size} → Checked t p z → Finite (Step guarded t p z) (stepsOf guarded t p z) (nodes t)
-graph guarded c = record { few = c .few; to-next = λ n m s. s; of-next = λ n m i. i; inside = λ n m s. step-to guarded c n m s }
+graph guarded c = record { few = c .few; to-next = λ n m s. s; of-next = λ n m i. i; inside = λ n m s. step-to c n m guarded s }
 
 -- ---- the search
 pub record Sought (guarded : Bool) (t p plan : List ℕ) (from top : ℕ) (seen done : List ℕ) : Type 0 where
@@ -60,14 +63,14 @@ module _ {guarded : Bool} {t p plan : List ℕ} (r : Ready t p plan) where
       sought-again k = record {
         is = rw e
             (search-open (graph guarded (r .checked)) (s .is) (top - 1) (omega arith) (omega arith) (nodes t)
-            (omega (arith, s .is .top-le)) (le-refl (nodes t)) (λ m i. step-to guarded (r .checked) (top - 1) m i));
+            (omega (arith, s .is .top-le)) (le-refl (nodes t)) (λ m i. step-to (r .checked) (top - 1) m guarded i));
       }
 
       pub sought-lower : (kindOf t (top - 1) ≡ 9 → ⊥) → Sought guarded t p plan from (top - 1) next (set done (top - 1) 1)
       sought-lower k = record {
         is = rw e
             (search-open (graph guarded (r .checked)) (s .is) (top - 1) (omega arith) (omega arith) (top - 1)
-            (le-refl (top - 1)) (omega (arith, s .is .top-le)) (λ m i. step-lower guarded (r .checked) (top - 1) m k i));
+            (le-refl (top - 1)) (omega (arith, s .is .top-le)) (λ m i. step-down (r .checked) (top - 1) m guarded k i));
       }
 
   -- the measure falls where a node is opened
@@ -90,34 +93,43 @@ module _ {guarded : Bool} {t p plan : List ℕ} (r : Ready t p plan) where
 
 -- a node on a cycle is a node of the table
 pub cycle-in : (guarded : Bool) {t p : List ℕ} {z : ℕ → Size} → Checked t p z → (n : ℕ) → Leads guarded t p z n n → n < nodes t
-cycle-in guarded {t} c n q = carry-from (λ (k : ℕ). k < nodes t) (λ a b _ e. step-to guarded c a b e) (λ m e. step-to guarded c n m e) q
+cycle-in guarded {t} c n q = carry-from (λ (k : ℕ). k < nodes t) (λ a b _ e. step-to c a b guarded e) (λ m e. step-to c n m guarded e) q
 
--- ---- the lowest node of a kind on a cycle
-pub record Passed (guarded : Bool) (t p plan : List ℕ) (kind n : ℕ) : Type 0 where
+-- ---- the lowest node that is asked and on a cycle
+pub record Passed (guarded : Bool) (t p plan : List ℕ) (n : ℕ) : Type 0 where
   pub le : n ≤ nodes t
-  pub none : (k : ℕ) → k < n → KindOnCycle guarded t p (sizeIn plan) kind k → ⊥
+  pub none : (k : ℕ) → k < n → OnCycle guarded t p (sizeIn plan) k → ⊥
 
-pub passed-none : {guarded : Bool} {t p plan : List ℕ} {kind : ℕ} → Passed guarded t p plan kind 0
+pub passed-none : {guarded : Bool} {t p plan : List ℕ} → Passed guarded t p plan 0
 passed-none = record { le = zero-le; none = below-none _ }
 
-module _ {guarded : Bool} {t p plan : List ℕ} (r : Ready t p plan) {kind n : ℕ} where
-  pub passed-kind : Passed guarded t p plan kind n → n < nodes t → (kindOf t n ≡ kind → ⊥) → Passed guarded t p plan kind (n + 1)
-  passed-kind s l f = record { le = omega arith; none = below-more _ n (s .none) (λ w. f (w .is)) }
+-- what the code asks of a node's kind
+abbrev AskedBy : Bool → ℕ → Bool → Type 0
+AskedBy guarded kind b = (x y : ℕ) (p : List ℕ) (z : ℕ → Size) → b ≡ pick guarded (kindIn kind .rule x y p z .skips) (eqb kind 9)
 
-  pub passed-cycle : {b : Bool} → Passed guarded t p plan kind n → n < nodes t → Decides (Leads guarded t p (sizeIn plan) n n) b → b ≡ false
-      → Passed guarded t p plan kind (n + 1)
-  passed-cycle s l d e = record { le = omega arith; none = below-more _ n (s .none) (λ w. d .no e (w .cycle)) }
+module _ {guarded : Bool} {t p plan : List ℕ} (r : Ready t p plan) {n : ℕ} {b : Bool} (e : AskedBy guarded (kindOf t n) b) where
+  is-asked : b ≡ asked guarded t p (sizeIn plan) n
+  unfolding ruleAt
+  is-asked = e (aOf t n) (bOf t n) p (before (sizeIn plan) n)
 
-  pub lowest-found : {b : Bool} → Passed guarded t p plan kind n → n < nodes t → kindOf t n ≡ kind → Decides (Leads guarded t p (sizeIn plan) n n) b → b ≡ true
-      → Lowest (KindOnCycle guarded t p (sizeIn plan) kind) n
-  lowest-found s l k d e = record {
+  pub passed-kind : Passed guarded t p plan n → n < nodes t → b ≡ false → Passed guarded t p plan (n + 1)
+  passed-kind s l f = record { le = omega arith; none = below-more _ n (s .none) (λ w. false≢true (sym f ∙ (is-asked ∙ w .is))) }
+
+  pub passed-cycle : {q : Bool} → Passed guarded t p plan n → n < nodes t → Decides (Leads guarded t p (sizeIn plan) n n) q → q ≡ false
+      → Passed guarded t p plan (n + 1)
+  passed-cycle s l d f = record { le = omega arith; none = below-more _ n (s .none) (λ w. d .no f (w .cycle)) }
+
+  pub lowest-found : {q : Bool} → Passed guarded t p plan n → n < nodes t → b ≡ true → Decides (Leads guarded t p (sizeIn plan) n n) q → q ≡ true
+      → Lowest (OnCycle guarded t p (sizeIn plan)) n
+  lowest-found s l k d f = record {
     within = omega (arith, r .checked .few);
-    found = λ _. record { is = k; cycle = d .yes e };
+    found = λ _. record { is = sym is-asked ∙ k; cycle = d .yes f };
     before = s .none;
     none = λ e k w. absurd (omega (arith, r .checked .few));
   }
 
-  pub lowest-none : Passed guarded t p plan kind n → nodes t ≤ n → Lowest (KindOnCycle guarded t p (sizeIn plan) kind) 256
+module _ {guarded : Bool} {t p plan : List ℕ} (r : Ready t p plan) {n : ℕ} where
+  pub lowest-none : Passed guarded t p plan n → nodes t ≤ n → Lowest (OnCycle guarded t p (sizeIn plan)) 256
   lowest-none s l = record {
     within = le-refl 256;
     found = λ h. absurd (lt-irrefl 256 h);
@@ -128,19 +140,28 @@ module _ {guarded : Bool} {t p plan : List ℕ} (r : Ready t p plan) {kind n : �
 -- ---- the lowest node of a cycle is an again
 module _ (guarded : Bool) {t p plan : List ℕ} (r : Ready t p plan) where
   low : {k : ℕ} → Leads guarded t p (sizeIn plan) k k → (j : ℕ) × (j ≤ k) × (kindOf t j ≡ 9) × Leads guarded t p (sizeIn plan) j j
-  low q = lowest-on (λ (j : ℕ). kindOf t j ≡ 9) (λ j. same? (kindOf t j) 9) (λ n m f e. step-lower guarded (r .checked) n m f e) q
-
-  pub lowest-again : {m : ℕ} → Lowest (KindOnCycle guarded t p (sizeIn plan) 9) m → Lowest (λ n. Leads guarded t p (sizeIn plan) n n) m
-  lowest-again {m} l = record {
-    within = l .within;
-    found = λ h. l .found h .cycle;
-    before = λ k h q. let (j, le, e, o) = low q in l .before j (omega arith) (record { is = e; cycle = o });
-    none = λ e k q. let (j, le, i, o) = low q in l .none e j (record { is = i; cycle = o });
-  }
+  low q = lowest-on (λ (j : ℕ). kindOf t j ≡ 9) (λ j. same? (kindOf t j) 9) (λ n m f e. step-down (r .checked) n m guarded f e) q
 
   -- so where there is none, there is no cycle
   pub no-cycle : ((n : ℕ) → n < nodes t → kindOf t n ≡ 9 → ⊥) → (k : ℕ) → Leads guarded t p (sizeIn plan) k k → ⊥
   no-cycle f k q = let (j, le, e, o) = low q in f j (cycle-in guarded (r .checked) j o) e
+
+module _ {t p plan : List ℕ} (r : Ready t p plan) where
+  pub lowest-again : {m : ℕ} → Lowest (OnCycle false t p (sizeIn plan)) m → Lowest (Unguarded t p (sizeIn plan)) m
+  lowest-again {m} l = record {
+    within = l .within;
+    found = λ h. l .found h .cycle;
+    before = λ k h q. let (j, le, e, o) = low false r q in l .before j (omega arith) (record { is = eq-eqb (kindOf t j) 9 e; cycle = o });
+    none = λ e k q. let (j, le, i, o) = low false r q in l .none e j (record { is = eq-eqb (kindOf t j) 9 i; cycle = o });
+  }
+
+  pub lowest-except : {m : ℕ} → Lowest (OnCycle true t p (sizeIn plan)) m → Lowest (ExceptOnCycle t p (sizeIn plan)) m
+  lowest-except {m} l = record {
+    within = l .within;
+    found = λ h. let w = l .found h in record { is = w .is; cycle = w .cycle };
+    before = λ k h w. l .before k h (record { is = w .is; cycle = w .cycle });
+    none = λ e k w. l .none e k (record { is = w .is; cycle = w .cycle });
+  }
 
 -- ---- the verdict on cycles, computed and found
 module _ {t p : List ℕ} {z : ℕ → Size} (c : Checked t p z) where
@@ -148,13 +169,13 @@ module _ {t p : List ℕ} {z : ℕ → Size} (c : Checked t p z) where
   unfolding leads
   cycle? guarded k l = via-decide (graph guarded c) k k
 
-  kind? : (kind k : ℕ) → k < nodes t → Decides (KindOnCycle true t p z kind k) (eqb (kindOf t k) kind && leads true t p z k k)
-  kind? kind k l = record {
+  except? : (k : ℕ) → k < nodes t → Decides (ExceptOnCycle t p z k) (ruleAt t p z k .skips && leads true t p z k k)
+  except? k l = record {
     yes = λ e. record {
-      is = eqb-true (kindOf t k) kind (and-left (eqb (kindOf t k) kind) (leads true t p z k k) e);
-      cycle = cycle? true k l .yes (and-right (eqb (kindOf t k) kind) (leads true t p z k k) e);
+      is = and-left (ruleAt t p z k .skips) (leads true t p z k k) e;
+      cycle = cycle? true k l .yes (and-right (ruleAt t p z k .skips) (leads true t p z k k) e);
     };
-    no = λ e w. cycle? true k l .no (rw (eq-eqb (kindOf t k) kind (w .is)) at e) (w .cycle);
+    no = λ e w. cycle? true k l .no (rw (w .is) at e) (w .cycle);
   }
 
   pub unguarded-is : Lowest (Unguarded t p z) (unguarded t p z)
@@ -163,7 +184,7 @@ module _ {t p : List ℕ} {z : ℕ → Size} (c : Checked t p z) where
 
   pub except-is : Lowest (ExceptOnCycle t p z) (exceptOnCycle t p z)
   unfolding exceptOnCycle
-  except-is = lowest-of (λ n. eqb (kindOf t n) 7 && leads true t p z n n) (nodes t) (c .few) (kind? 7) (λ k w. cycle-in true c k (w .cycle))
+  except-is = lowest-of (λ n. ruleAt t p z n .skips && leads true t p z n n) (nodes t) (c .few) except? (λ k w. cycle-in true c k (w .cycle))
 
   pub cycles-by : {u e : ℕ} → Lowest (Unguarded t p z) u → Lowest (ExceptOnCycle t p z) e
       → pick (ltb u 256) (Refused Rule9 u) (pick (ltb e 256) (Refused Rule10 e) Accepted) ≡ cycles t p z

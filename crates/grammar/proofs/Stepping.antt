@@ -2,10 +2,12 @@
 --   ..-steps        the nodes that a node of a kind names
 --   dep-first, dep-count, dep-run   what the code of dep has of its first part and of its seconds
 --   names-as        steps that are the same
+--   under-mem       a member of a list of nodes below count
 -- Assumes nothing.
 use mathlib.Core.Path.{_≡_, refl, sym, subst, ap}
 use mathlib.Core.Bool.{Bool, true, false≢true}
-use mathlib.Core.List.{List, [], _∷_}
+use mathlib.Core.Logic.{⊎-elim}
+use mathlib.Core.List.{List, [], _∷_, List·Memᴰ, List·Memᴰ·cases-cons, List·Memᴰ·not-nil}
 use Prim.Native.Nat.{ℕ, _+_, _*_, _≤_, _<_}
 use native.Mathlib.Omega.{arith}
 use lib.Dec.{ltb}
@@ -16,7 +18,7 @@ use Rattle.numbers.specs.Size.{Size, sizeOf}
 use Rattle.numbers.proofs.size.Laws.{by-size}
 use Rattle.grammar.specs.Table.{kindOf, aOf, bOf, nodes}
 use Rattle.grammar.specs.Checks.{few, count, seconds}
-use Rattle.grammar.specs.Rule.{Rule}
+use Rattle.grammar.specs.Law.{Under}
 use Rattle.grammar.specs.Kind.{Kind, before, Holds}
 use Rattle.grammar.specs.kinds.Below.{belowRule}
 use Rattle.grammar.specs.kinds.Nats.{natsRule}
@@ -34,6 +36,10 @@ use Rattle.grammar.specs.Seconds.{firsts}
 use Rattle.grammar.specs.Named.{Names}
 use Rattle.grammar.specs.declared.steps.Named.{Named}
 use Rattle.grammar.proofs.Known.{Others, others-unknown}
+
+pub under-mem : (count : ℕ) (xs : List ℕ) → Under count xs → (p : ℕ) → List·Memᴰ p xs → p < count
+under-mem count [] u p m = absurd (List·Memᴰ·not-nil m)
+under-mem count (x ∷ xs) u p m = ⊎-elim (λ e. rw e (u .0)) (λ t. under-mem count xs (u .1) p t) (List·Memᴰ·cases-cons m)
 
 pub few-word : (w : ℕ) → few (sizeOf w) ≡ true → count (sizeOf w) ≡ w
 few-word w = by-size (λ s. few s ≡ true → count s ≡ w) w (λ l h. refl) (λ l h. absurd (false≢true h))

@@ -1,4 +1,4 @@
--- `cycles::all_safe` makes passes until one leaves no node, or no fewer than the one before.
+-- `cycles::safety::all_safe` makes passes until one leaves no node, or no fewer than the one before.
 -- Assumes nothing.
 use borrow.Author.Needs.{needs}
 use mathlib.Core.Bool.{false≢true}
@@ -7,8 +7,8 @@ use Rattle.graph.proofs.Marks.{blank}
 use Rattle.grammar.specs.Table.{nodes}
 use Rattle.cycles.specs.Safe.{SafePass}
 use Rattle.cycles.proofs.Safe.{pass-start, all-safe}
-use Rattle.cycles.proofs.all_safe.Statement.{statement}
-use Rattle.cycles.proofs.all_safe.Tie as tie
+use Rattle.cycles.proofs.safety.all_safe.Statement.{statement}
+use Rattle.cycles.proofs.safety.all_safe.Tie as tie
 
 abbrev Inv-loop : tie.InvT-loop
 Inv-loop table pool plan safe₀ left₀ safe left = SafePass table pool plan safe (nodes table) left

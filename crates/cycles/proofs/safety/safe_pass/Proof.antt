@@ -1,12 +1,12 @@
--- `cycles::safe_pass` marks the nodes whose steps lead to safe nodes, rising.
+-- `cycles::safety::safe_pass` marks the nodes whose steps lead to safe nodes, rising.
 -- Assumes nothing.
 use borrow.Author.Needs.{needs}
 use Prim.Native.Nat.{_-_, _≤_}
 use native.Mathlib.Omega.{arith}
 use Rattle.cycles.specs.Safe.{SafePass}
 use Rattle.cycles.proofs.Safe.{pass-none, pass-marked, pass-safe, pass-left, pass-end}
-use Rattle.cycles.proofs.safe_pass.Statement.{statement}
-use Rattle.cycles.proofs.safe_pass.Tie as tie
+use Rattle.cycles.proofs.safety.safe_pass.Statement.{statement}
+use Rattle.cycles.proofs.safety.safe_pass.Tie as tie
 
 abbrev Inv-loop : tie.InvT-loop
 Inv-loop table pool plan safe₀ count left₀ n₀ safe left n = (n ≤ count) × (left ≤ n) × SafePass table pool plan safe n left

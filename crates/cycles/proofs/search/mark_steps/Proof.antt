@@ -1,9 +1,9 @@
--- `cycles::mark_steps` marks the nodes that a node names.
+-- `cycles::search::mark_steps` marks the nodes that a node names.
 -- Assumes nothing.
 use borrow.Author.Needs.{needs}
 use Rattle.cycles.proofs.Steps.{a-few, kind-few, or-few, cons-few, fours-fit, place-fits, bytes-fit, place-few, run-in, seconds-few, mark-low, mark-or, mark-or-first, mark-cons, mark-dep, mark-rest}
-use Rattle.cycles.proofs.mark_steps.Statement.{statement}
-use Rattle.cycles.proofs.mark_steps.Tie as tie
+use Rattle.cycles.proofs.search.mark_steps.Statement.{statement}
+use Rattle.cycles.proofs.search.mark_steps.Tie as tie
 
 pub mark-steps-spec : {M : Type 1} → statement M
 mark-steps-spec =

@@ -1,10 +1,10 @@
--- `cycles::steps_safe` tests the nodes that a node names.
+-- `cycles::safety::steps_safe` tests the nodes that a node names.
 -- Assumes nothing.
 use borrow.Author.Needs.{needs}
 use Rattle.cycles.proofs.Steps.{a-few, cons-few, fours-fit, place-fits, bytes-fit, place-few, run-in, seconds-few}
 use Rattle.cycles.proofs.Safe.{ask-low, ask-first, ask-cons, ask-dep, ask-rest}
-use Rattle.cycles.proofs.steps_safe.Statement.{statement}
-use Rattle.cycles.proofs.steps_safe.Tie as tie
+use Rattle.cycles.proofs.safety.steps_safe.Statement.{statement}
+use Rattle.cycles.proofs.safety.steps_safe.Tie as tie
 
 pub steps-safe-spec : {M : Type 1} → statement M
 steps-safe-spec =

@@ -1,10 +1,10 @@
--- `cycles::mark_run` marks the nodes of a run.
+-- `cycles::search::mark_run` marks the nodes of a run.
 -- Assumes nothing.
 use Prim.Native.Nat.{_-_}
 use native.Mathlib.Omega.{arith}
 use Rattle.graph.proofs.Marks.{Run, run-none, run-more, run-all}
-use Rattle.cycles.proofs.mark_run.Statement.{statement}
-use Rattle.cycles.proofs.mark_run.Tie as tie
+use Rattle.cycles.proofs.search.mark_run.Statement.{statement}
+use Rattle.cycles.proofs.search.mark_run.Tie as tie
 
 abbrev Inv-loop : tie.InvT-loop
 Inv-loop pool at count seen₀ i₀ seen i = Run pool seen₀ at count seen i

@@ -1,4 +1,4 @@
--- `cycles::comes_back` searches the table from a node. A node is opened once, and the search goes back up only after an again.
+-- `cycles::search::comes_back` searches the table from a node. A node is opened once, and the search goes back up only after an again.
 -- Assumes nothing.
 use borrow.Author.Needs.{needs}
 use mathlib.Core.Path.{refl}
@@ -6,8 +6,8 @@ use Prim.Native.Nat.{_+_, _*_, _-_}
 use native.Mathlib.Omega.{arith}
 use Rattle.graph.proofs.Marks.{zeros, blank}
 use Rattle.cycles.proofs.Table.{Sought, sought-start, sought-unseen, sought-done, sought-again, sought-lower, falls-again, falls-lower, sought-end}
-use Rattle.cycles.proofs.comes_back.Statement.{statement}
-use Rattle.cycles.proofs.comes_back.Tie as tie
+use Rattle.cycles.proofs.search.comes_back.Statement.{statement}
+use Rattle.cycles.proofs.search.comes_back.Tie as tie
 
 abbrev Inv-loop : tie.InvT-loop
 Inv-loop table pool plan n guarded count seen₀ done₀ top₀ seen done top = Sought guarded table pool plan n top seen done

@@ -1,4 +1,4 @@
--- `cycles::run_safe` tests every word of a run.
+-- `cycles::safety::run_safe` tests every word of a run.
 -- Assumes nothing.
 use mathlib.Core.Path.{_≡_}
 use Prim.Native.Nat.{_+_, _-_}
@@ -6,8 +6,8 @@ use native.Mathlib.Omega.{arith}
 use lib.ListN.{getD}
 use Rattle.grammar.proofs.Runs.{Upto, upto-none, upto-more}
 use Rattle.cycles.proofs.Safe.{run-safe, run-not}
-use Rattle.cycles.proofs.run_safe.Statement.{statement}
-use Rattle.cycles.proofs.run_safe.Tie as tie
+use Rattle.cycles.proofs.safety.run_safe.Statement.{statement}
+use Rattle.cycles.proofs.safety.run_safe.Tie as tie
 
 abbrev Inv-loop : tie.InvT-loop
 Inv-loop pool at count safe i₀ i = Upto (λ j. getD safe (getD pool (at + j) 0) 0 ≡ 0 → ⊥) count i
