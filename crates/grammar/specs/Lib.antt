@@ -7,10 +7,7 @@ pub mod Kind
 pub mod kinds
 pub mod Nodes
 pub mod Law
-pub mod Node
-pub mod Used
-pub mod Rows
-pub mod Sound
+pub mod Checked
 pub mod Sizes
 pub mod Steps
 pub mod Verdict

@@ -1,36 +1,21 @@
 -- The graph of a table, and its cycles. z has the nodes' sizes.
---   steps          the nodes that a node names; with `guarded` false, without the second part of an or
+--   stepsOf        the nodes that a node names; with `guarded` false, without the second part of an or
 --   Leads          a path of one or more steps: no bound on its length
 --   Unguarded      "a cycle that never steps to the second part of an or"
 --   ExceptOnCycle  "an except on any cycle"
 -- Assumes nothing.
 use mathlib.Core.Path.{_≡_}
 use mathlib.Core.Bool.{Bool, true, false}
-use mathlib.Core.List.{List, [], _∷_, List·Memᴰ}
+use mathlib.Core.List.{List, List·Memᴰ}
 use Prim.Native.Nat.{ℕ}
-use Rattle.numbers.specs.Pick.{pick}
 use Rattle.numbers.specs.Size.{Size}
 use Rattle.graph.specs.Paths.{Path}
 use Rattle.grammar.specs.Table.{kindOf}
-use Rattle.grammar.specs.Node.{Node, below, nats, pool, shift, or, cons, dep, except, fix, again, unknown, nodeAt}
-use Rattle.grammar.specs.Checks.{seconds}
+use Rattle.grammar.specs.Nodes.{ruleAt}
 
 -- "Steps of the graph go from a node to the nodes it names: to both parts, to a dep's first and each second, and from again to its fix."
-unfoldable pub steps : Bool → List ℕ → (ℕ → Size) → Node → List ℕ
-steps guarded p z (below a) = []
-steps guarded p z nats = []
-steps guarded p z (pool a b) = []
-steps guarded p z (shift a k) = a ∷ []
-steps guarded p z (or a b) = a ∷ pick guarded (b ∷ []) []
-steps guarded p z (cons a b) = a ∷ b ∷ []
-steps guarded p z (dep a b) = a ∷ seconds p b (z a)
-steps guarded p z (except a b) = a ∷ []
-steps guarded p z (fix a) = a ∷ []
-steps guarded p z (again a) = a ∷ []
-steps guarded p z unknown = []
-
 abbrev pub stepsOf : Bool → List ℕ → List ℕ → (ℕ → Size) → ℕ → List ℕ
-stepsOf guarded t p z n = steps guarded p z (nodeAt t n)
+stepsOf guarded t p z n = ruleAt t p z n .steps guarded
 
 abbrev pub Step : Bool → List ℕ → List ℕ → (ℕ → Size) → ℕ → ℕ → Type 0
 Step guarded t p z n m = List·Memᴰ m (stepsOf guarded t p z n)

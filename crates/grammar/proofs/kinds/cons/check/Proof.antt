@@ -3,14 +3,14 @@
 use borrow.Author.Needs.{needs}
 use Rattle.grammar.proofs.Tests.{tests}
 use Rattle.grammar.specs.Checks.{row}
-use Rattle.grammar.specs.Rows.{consRow}
-use Rattle.grammar.specs.Plan.{coded}
+use Rattle.grammar.specs.kinds.Cons.{consRule}
+use Rattle.grammar.specs.Plan.{coded, weighed}
 use Rattle.grammar.proofs.Sums.{pair-row}
 use Rattle.grammar.proofs.kinds.cons.check.Statement.{statement}
 use Rattle.grammar.proofs.kinds.cons.check.Tie as tie
 
 pub check-spec : {M : Type 1} → statement M
-unfolding consRow
+unfolding weighed consRule
 check-spec =
     tie.close
     (tie.spec

@@ -9,8 +9,8 @@ use borrow.Author.Tests.{le-leb, lt-leb}
 use Rattle.numbers.specs.Size.{sizeOf}
 use Rattle.numbers.proofs.size.Laws.{by-size}
 use Rattle.grammar.specs.Checks.{few, count}
-use Rattle.grammar.specs.Rows.{further, depRow}
-use Rattle.grammar.specs.Plan.{coded}
+use Rattle.grammar.specs.kinds.Dep.{depRule}
+use Rattle.grammar.specs.Plan.{coded, weighed}
 use Rattle.grammar.proofs.Tests.{tests}
 use Rattle.grammar.proofs.kinds.dep.check.Statement.{statement}
 use Rattle.grammar.proofs.kinds.dep.check.Tie as tie
@@ -26,7 +26,7 @@ module _ (w : ℕ) where
   the-count h = by-size (λ z. count z ≡ w) w (λ l. refl) (λ l. absurd (omega arith))
 
 pub check-spec : {M : Type 1} → statement M
-unfolding depRow further coded
+unfolding weighed depRule further coded
 check-spec =
     tie.close
     (tie.spec

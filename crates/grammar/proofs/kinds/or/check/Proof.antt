@@ -3,14 +3,14 @@
 use borrow.Author.Needs.{needs}
 use Rattle.grammar.proofs.Tests.{tests}
 use Rattle.grammar.specs.Checks.{row}
-use Rattle.grammar.specs.Rows.{orRow}
-use Rattle.grammar.specs.Plan.{coded}
+use Rattle.grammar.specs.kinds.Or.{orRule}
+use Rattle.grammar.specs.Plan.{coded, weighed}
 use Rattle.grammar.proofs.Sums.{pair-row}
 use Rattle.grammar.proofs.kinds.or.check.Statement.{statement}
 use Rattle.grammar.proofs.kinds.or.check.Tie as tie
 
 pub check-spec : {M : Type 1} → statement M
-unfolding orRow
+unfolding weighed orRule
 check-spec =
     tie.close
     (tie.spec
