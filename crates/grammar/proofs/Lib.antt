@@ -10,6 +10,7 @@ pub mod Seconds
 pub mod KindLaw
 pub mod laws
 pub mod Kept
+pub mod KindWords
 pub mod Checked
 pub mod Scan
 pub mod Turns

@@ -12,4 +12,4 @@ unfolding weighed natsRule row coded
 check-spec =
     tie.close
     (tie.spec
-    (λ c. refl))
+    (λ c t p n a b z. refl))
