@@ -1,19 +1,18 @@
 -- What is proved of each kind, from its checks alone.
---   Fit        a size that a row may give: 1 to 2^62, or endless
 --   KindLaw    its rule is lawful, and its size fits
---   All, each-kind   of every kind of a list, and so of any kind word
+--   Lower      its steps lead to lower nodes
+--   All, each-kind     of every kind of a list, and so of any kind word
+--   AllBut, each-but   the same of all of a list but the one at a place
 -- Assumes nothing.
-use mathlib.Core.Path.{_≡_}
+use mathlib.Core.Path.{_≡_, refl, ap}
+use mathlib.Core.Bool.{true}
 use mathlib.Core.List.{List, [], _∷_}
-use Prim.Native.Nat.{ℕ, zero, suc, _^_, _≤_, _<_}
+use Prim.Native.Nat.{ℕ, zero, suc, _<_}
 use lib.ListN.{getD}
 use Rattle.numbers.specs.Size.{Size, finite, endless, Some}
-use Rattle.grammar.specs.Law.{Lawful}
+use Rattle.grammar.specs.Checks.{Fit}
+use Rattle.grammar.specs.Law.{Lawful, Under}
 use Rattle.grammar.specs.Kind.{Node, Kind, before, Holds}
-
-abbrev pub Fit : Size → Type 0
-Fit (finite s) = (0 < s) × (s ≤ 2 ^ 62)
-Fit endless = Unit {0}
 
 pub fit-some : (s : Size) → Fit s → Some s
 fit-some (finite s) h = h .0
@@ -29,6 +28,9 @@ pub record KindLaw (k : Kind) : Type 0 where
   pub lawful : (v : Node) (z : ℕ → Size) → Ground v z → Holds (k .checks v (before z (v .own))) → Lawful z (v .nodes) (k .rule (v .a) (v .b) (v .pool) (before z (v .own)))
   pub fit : (v : Node) (z : ℕ → Size) → ((i : ℕ) → i < v .own → Fit (z i)) → Holds (k .checks v (before z (v .own))) → Fit (k .rule (v .a) (v .b) (v .pool) (before z (v .own)) .size)
 
+abbrev pub Lower : Kind → Type 0
+Lower k = (v : Node) (z : ℕ → Size) → Holds (k .checks v (before z (v .own))) → Under (v .own) (k .rule (v .a) (v .b) (v .pool) (before z (v .own)) .steps true)
+
 abbrev pub All : (Kind → Type 0) → List Kind → Type 0
 All P [] = Unit {0}
 All P (k ∷ ks) = P k × All P ks
@@ -37,3 +39,15 @@ pub each-kind : (P : Kind → Type 0) (ks : List Kind) (none : Kind) → All P k
 each-kind P [] none h q i = q
 each-kind P (k ∷ ks) none h q zero = h .0
 each-kind P (k ∷ ks) none h q (suc i) = each-kind P ks none (h .1) q i
+
+abbrev pub AllBut : ℕ → (Kind → Type 0) → List Kind → Type 0
+AllBut i P [] = Unit {0}
+AllBut zero P (k ∷ ks) = All P ks
+AllBut (suc i) P (k ∷ ks) = P k × AllBut i P ks
+
+pub each-but : (P : Kind → Type 0) (ks : List Kind) (none : Kind) (i : ℕ) → AllBut i P ks → P none → (j : ℕ) → (j ≡ i → ⊥) → P (getD ks j none)
+each-but P [] none i h q j f = q
+each-but P (k ∷ ks) none zero h q zero f = absurd (f refl)
+each-but P (k ∷ ks) none zero h q (suc j) f = each-kind P ks none h q j
+each-but P (k ∷ ks) none (suc i) h q zero f = h .0
+each-but P (k ∷ ks) none (suc i) h q (suc j) f = each-but P ks none i (h .1) q j (λ e. f (ap suc e))

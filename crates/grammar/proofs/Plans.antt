@@ -3,23 +3,23 @@
 --   plan-sizes             the sizes that the plan's words stand for
 -- Assumes nothing.
 use mathlib.Core.Path.{_≡_, refl, sym, ap, _∙_}
-use mathlib.Core.Bool.{Bool, true, false}
 use mathlib.Core.Logic.{_⊎_, ⊎-elim}
 use mathlib.Core.List.{List, [], _∷_, _++_}
 use Prim.Native.Nat.{ℕ, zero, suc, _+_, _*_, _^_, _≤_, _<_}
 use native.Mathlib.Nat.{not-suc-le-zero}
 use native.Mathlib.Omega.{arith}
 use lib.Dec.{eqb, eqb·suc-zero, eqb·zero-suc, eqb·suc-suc}
-use lib.ListN.{length, getD, set, replicate, length-set, length-append}
+use lib.ListN.{length, getD, set, replicate, length-set, length-append, List·getD-eq-default}
 use lib.Seq.{getD-set-same, getD-set-other}
 use borrow.Author.Tests.{eq-eqb, ne-eqb}
 use Rattle.numbers.specs.Pick.{pick}
 use Rattle.numbers.specs.Size.{Size, finite, endless, codeOf, sizeOf}
 use Rattle.numbers.proofs.size.Laws.{sized-finite, sized-endless}
-use Rattle.graph.proofs.Marks.{same?, blank}
+use Rattle.graph.proofs.Marks.{same?, le-or-lt, blank}
 use Rattle.grammar.specs.Table.{kindOf, aOf, bOf, nodes}
 use Rattle.grammar.specs.Sizes.{sizeAt}
-use Rattle.grammar.specs.Plan.{sizeIn, rowed, Small, Planned}
+use Rattle.grammar.specs.Checks.{Fit}
+use Rattle.grammar.specs.Plan.{sizeIn, rowed, Planned}
 
 -- ---- the sizes with one more
 appended : (zs : List Size) (s : Size) (k : ℕ) → sizeAt (zs ++ (s ∷ [])) k ≡ pick (eqb k (length zs)) s (sizeAt zs k)
@@ -82,10 +82,10 @@ plan-none t plan e l = record {
   b = λ k l. absurd (not-suc-le-zero l);
   blank = λ k l. (cleared plan (length plan) e (4 * k), cleared plan (length plan) e (4 * k + 1), cleared plan (length plan) e (4 * k + 2));
   size = λ k. cleared plan (length plan) e (4 * k + 3);
-  small = λ k. omega arith;
+  fit = λ k l. absurd (not-suc-le-zero l);
 }
 
-module _ {t : List ℕ} {zs : List Size} {n : ℕ} {plan : List ℕ} (h : Planned t zs n plan) (l : n < nodes t) (s : Size) (m : Small s) {w : ℕ} (e : w ≡ codeOf s) where
+module _ {t : List ℕ} {zs : List Size} {n : ℕ} {plan : List ℕ} (h : Planned t zs n plan) (l : n < nodes t) (s : Size) (m : Fit s) {w : ℕ} (e : w ≡ codeOf s) where
   next : List ℕ
   next = rowed plan n (kindOf t n) (aOf t n) (bOf t n) w
 
@@ -100,12 +100,8 @@ module _ {t : List ℕ} {zs : List Size} {n : ℕ} {plan : List ℕ} (h : Planne
       ∙ (h .size k ∙ ap codeOf (sym (at-other zs s k (λ q. other (q ∙ h .many))))))
       (same? k n)
 
-  smalls : (k : ℕ) → Small (sizeAt (zs ++ (s ∷ [])) k)
-  smalls k = rw (appended zs s k) (by (eqb k (length zs)))
-    where
-      by : (q : Bool) → Small (pick q s (sizeAt zs k))
-      by true = m
-      by false = h .small k
+  fits-at : (k : ℕ) → k < n + 1 → Fit (sizeAt (zs ++ (s ∷ [])) k)
+  fits-at k q = ⊎-elim (λ same. rw (at-end zs s k (same ∙ sym (h .many))) m) (λ other. rw (at-other zs s k (λ x. other (x ∙ h .many))) (h .fit k (omega arith))) (same? k n)
 
   kept : (i : ℕ) → 4 * n + 3 < i → getD plan i 0 ≡ 0 → getD (rowed plan n (kindOf t n) (aOf t n) (bOf t n) w) i 0 ≡ 0
   kept i q z = row-other plan n (kindOf t n) (aOf t n) (bOf t n) w i (λ x. omega arith) (λ x. omega arith) (λ x. omega arith) (λ x. omega arith) ∙ z
@@ -123,13 +119,17 @@ module _ {t : List ℕ} {zs : List Size} {n : ℕ} {plan : List ℕ} (h : Planne
         (λ other. row-other plan n (kindOf t n) (aOf t n) (bOf t n) w (4 * k + 2) (λ x. omega arith) (λ x. omega arith) (λ x. other (omega arith)) (λ x. omega arith) ∙ h .b k (omega arith)) (same? k n);
     blank = λ k q. let (x, y, z) = h .blank k (omega arith) in (kept (4 * k) (omega arith) x, kept (4 * k + 1) (omega arith) y, kept (4 * k + 2) (omega arith) z);
     size = sizes-at;
-    small = smalls;
+    fit = fits-at;
   }
 
 -- ---- what the words stand for
-word-size : (s : Size) → Small s → sizeOf (codeOf s) ≡ s
+word-size : (s : Size) → Fit s → sizeOf (codeOf s) ≡ s
 word-size (finite s) h = sized-finite s (omega arith)
 word-size endless h = sized-endless (2 ^ 63) (omega arith)
 
 pub plan-sizes : {t : List ℕ} {zs : List Size} {n : ℕ} {plan : List ℕ} → Planned t zs n plan → (k : ℕ) → sizeIn plan k ≡ sizeAt zs k
-plan-sizes {zs} {plan} h k = ap sizeOf (h .size k) ∙ word-size (sizeAt zs k) (h .small k)
+plan-sizes {zs} {n} {plan} h k = ap sizeOf (h .size k) ∙ ⊎-elim (λ past. none (List·getD-eq-default zs (finite 0) (omega (arith, h .many)))) (λ l. word-size (sizeAt zs k) (h .fit k l)) (le-or-lt n k)
+  where
+    -- a node that is not there yet has the word 0
+    none : sizeAt zs k ≡ finite 0 → sizeOf (codeOf (sizeAt zs k)) ≡ sizeAt zs k
+    none e = rw e (sized-finite 0 (omega arith))

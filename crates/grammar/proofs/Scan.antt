@@ -1,33 +1,27 @@
 -- The nodes rising, as the loop of `weigh_all` goes through them.
 --   Weighing          the nodes below n have passed, and the plan holds them
 --   weighing-none, weighing-more, weighing-fault, weighing-end   its turns
---   scan-sound, scan-size   of a table whose nodes pass: what each node's row shows, and that its size is 01's
 -- Assumes nothing.
 use mathlib.Core.Path.{_≡_, refl, sym, ap, _∙_, fun-ext}
-use mathlib.Core.Bool.{true}
-use mathlib.Core.Logic.{_⊎_, ⊎-elim}
+use mathlib.Core.Logic.{⊎-elim}
 use mathlib.Core.List.{List, [], _∷_, _++_}
 use Prim.Native.Nat.{ℕ, zero, suc, _+_, _*_, _≤_, _<_, zero-le}
-use native.Mathlib.Nat.{not-suc-le-zero, le-of-suc-le-suc, eq-or-lt-of-le}
+use native.Mathlib.Nat.{le-of-suc-le-suc, eq-or-lt-of-le}
 use native.Mathlib.Numerals.{add-one}
 use native.Mathlib.Omega.{arith}
-use lib.ListN.{length, replicate, length-set, length-append}
+use lib.ListN.{length, replicate, length-set}
 use Rattle.numbers.specs.Size.{Size, codeOf}
 use Rattle.grammar.specs.Table.{kindOf, aOf, bOf, nodes}
-use Rattle.grammar.specs.Node.{nodeAt, spare}
 use Rattle.grammar.specs.Checks.{Row, fault, sized}
-use Rattle.grammar.specs.Rows.{rowAt, sizeFor}
-use Rattle.grammar.specs.Sizes.{Scan, passed, faulty, sizeAt, noted, onward, scan, sizes}
-use Rattle.grammar.specs.Plan.{sizeIn, rowed, coded, Small, Planned, AllWeighed}
+use Rattle.grammar.specs.Nodes.{rowAt}
+use Rattle.grammar.specs.Sizes.{passed, faulty, sizeAt, onward, scan, sizes}
+use Rattle.grammar.specs.Plan.{sizeIn, rowed, coded, Planned, AllWeighed}
 use Rattle.grammar.specs.declared.refusal.Refusal.{Refusal}
 use Rattle.grammar.specs.declared.refusal.Verdict.the-variants.{Accepted, Refused}
 use Rattle.grammar.specs.declared.kinds.Weighed.{Weighed}
 use Rattle.grammar.specs.declared.kinds.Weighed.the-variants.{Fault, Of}
-use Rattle.grammar.specs.Sound.{Sound}
-use Rattle.grammar.proofs.Sound.{sound-at, small-for}
-use Rattle.grammar.proofs.Grow.{sound-grow, size-grow}
-use Rattle.grammar.proofs.Plans.{plan-none, plan-more, plan-sizes, at-end, at-other}
-use Rattle.graph.proofs.Marks.{same?}
+use Rattle.grammar.proofs.Plans.{plan-none, plan-more, plan-sizes}
+use Rattle.grammar.proofs.Checked.{row-fit}
 
 -- ---- a row's outcome, from the code's word for it
 coded-of : (r : Row) {w : ℕ} → coded r ≡ Of w → (s : Size) × (r ≡ sized s) × (w ≡ codeOf s)
@@ -66,8 +60,7 @@ module _ {t p old plan : List ℕ} {n : ℕ} (c : Weighing t p old n plan) (l : 
       → Weighing t p old (n + 1) next
   unfolding scan onward
   turn s r q g =
-      let (u, d, z) = sound-at t p (sizeAt (c .zs)) n r in
-      let m : Small s = rw z (small-for t p (sizeAt (c .zs)) n (c .plans .small) (nodeAt t n) d) in
+      let m = row-fit t p (sizeAt (c .zs)) n r (c .plans .fit) in
       record { le = omega arith; same = rw g (simp length-set (c .same)); zs = c .zs ++ (s ∷ []); is = rw (add-one, c .is, r); plans = rw g (plan-more (c .plans) l s m q) }
 
   pub weighing-more : {s : ℕ} {next : List ℕ} → w ≡ Of s → next ≡ rowed plan n (kindOf t n) (aOf t n) (bOf t n) s → Weighing t p old (n + 1) next
@@ -85,61 +78,3 @@ weighing-end {t} {p} {old} {plan} {n} c l =
     let e : n ≡ nodes t = omega (arith, c .le) in
     let s : scan t p (nodes t) ≡ passed (c .zs) = rw e at (c .is) in
     record { is = rw s (refl, rw e at (c .plans)) }
-
--- ---- a table whose nodes pass
-sized-of : (n : ℕ) (zs : List Size) {ys : List Size} (r : Row) → noted n zs r ≡ passed ys → (s : Size) × (r ≡ sized s) × (ys ≡ zs ++ (s ∷ []))
-sized-of n zs (fault f) e = let x : _≡_ {A = ℕ} 0 1 = cc in absurd (omega arith)
-sized-of n zs (sized s) e = (s, refl, cc)
-
-onward-of : (t p : List ℕ) (n : ℕ) (q : Scan) {ys : List Size} → onward t p n q ≡ passed ys
-    → (zs : List Size) × (q ≡ passed zs) × ((s : Size) × (rowAt t p (sizeAt zs) n ≡ sized s) × (ys ≡ zs ++ (s ∷ [])))
-unfolding onward
-onward-of t p n (passed zs) e = (zs, refl, sized-of n zs (rowAt t p (sizeAt zs) n) e)
-onward-of t p n (faulty r k) e = let x : _≡_ {A = ℕ} 0 1 = cc in absurd (omega arith)
-
-scan-long : (t p : List ℕ) (n : ℕ) {zs : List Size} → scan t p n ≡ passed zs → length zs ≡ n
-unfolding scan
-scan-long t p zero {zs} e = let q : zs ≡ [] = cc in ap length q
-scan-long t p (suc n) e =
-    let (ys, q, (s, r, f)) = onward-of t p n (scan t p n) e in
-    rw (f, length-append, scan-long t p n q, add-one)
-
--- a node that has passed, and its size
-record Sized (t p : List ℕ) (zs : List Size) (k : ℕ) : Type 0 where
-  sound : Sound t p (sizeAt zs) k (nodeAt t k)
-  spared : spare (nodeAt t k) (aOf t k) (bOf t k) ≡ true
-  size : sizeAt zs k ≡ sizeFor p (sizeAt zs) (nodeAt t k)
-
--- the sizes that come later change nothing
-sized-grow : (t p : List ℕ) (zs : List Size) (s : Size) (k : ℕ) → k ≤ length zs → (sizeAt (zs ++ (s ∷ [])) k ≡ sizeFor p (sizeAt zs) (nodeAt t k))
-    → Sound t p (sizeAt zs) k (nodeAt t k) → spare (nodeAt t k) (aOf t k) (bOf t k) ≡ true → Sized t p (zs ++ (s ∷ [])) k
-sized-grow t p zs s k l e d u =
-    let same : (a : ℕ) → a < k → sizeAt zs a ≡ sizeAt (zs ++ (s ∷ [])) a = λ a m. sym (at-other zs s a (λ q. omega arith)) in
-    record {
-      sound = sound-grow t p k (sizeAt zs) (sizeAt (zs ++ (s ∷ []))) same (nodeAt t k) d;
-      spared = u;
-      size = e ∙ size-grow t p k (sizeAt zs) (sizeAt (zs ++ (s ∷ []))) same (nodeAt t k) d;
-    }
-
-scan-sized : (t p : List ℕ) (n : ℕ) {zs : List Size} → scan t p n ≡ passed zs → (k : ℕ) → k < n → Sized t p zs k
-unfolding scan
-scan-sized t p zero e k l = absurd (not-suc-le-zero l)
-scan-sized t p (suc n) {zs} e k l =
-    let (ys, q, (s, r, f)) = onward-of t p n (scan t p n) e in
-    let long = scan-long t p n q in
-    let (u, d, z) = sound-at t p (sizeAt ys) n r in
-    rw f
-    (⊎-elim (λ same. rw same (sized-grow t p ys s n (omega arith) (at-end ys s n (sym long) ∙ z) d u))
-    (λ other. let w = scan-sized t p n q k (omega arith) in sized-grow t p ys s k (omega arith) (at-other ys s k (λ x. other (x ∙ long)) ∙ w .size) (w .sound) (w .spared))
-    (same? k n))
-
-module _ (t p : List ℕ) {zs : List Size} (e : scan t p (nodes t) ≡ passed zs) (n : ℕ) (l : n < nodes t) where
-  pub scan-sound : Sound t p (sizeAt zs) n (nodeAt t n)
-  scan-sound = scan-sized t p (nodes t) e n l .sound
-
-  pub scan-spare : spare (nodeAt t n) (aOf t n) (bOf t n) ≡ true
-  scan-spare = scan-sized t p (nodes t) e n l .spared
-
-  -- "a node's size is what 01's column Size gives"
-  pub scan-size : sizeAt zs n ≡ sizeFor p (sizeAt zs) (nodeAt t n)
-  scan-size = scan-sized t p (nodes t) e n l .size

@@ -19,8 +19,9 @@ use Rattle.numbers.specs.Pick.{pick}
 use Rattle.numbers.specs.declared.size.Measured.{Measured}
 use Rattle.numbers.specs.declared.size.Measured.the-variants.{Of, Past}
 use Rattle.numbers.proofs.size.Laws.{sized-finite, sized-endless}
-use Rattle.grammar.specs.Checks.{Row, every, isEndless, allLower, allEndless, allFinite, fits, total, row, asks}
-use Rattle.grammar.specs.Rows.{further, secondsRow}
+use Rattle.grammar.specs.Checks.{every, isEndless, allLower, allEndless, allFinite, fits, total, row, asks}
+use Rattle.grammar.specs.Kind.{before}
+use Rattle.grammar.specs.kinds.Dep.{secondsRow}
 use Rattle.grammar.specs.Plan.{sizeIn, coded, weighedOf}
 use Rattle.grammar.specs.declared.refusal.Refusal.the-variants.{Reference, UnsuitedPart, TooLarge}
 use Rattle.grammar.specs.declared.kinds.Weighed.{Weighed}
@@ -38,11 +39,11 @@ measured-row (finite s) = by (leb s (2 ^ 62))
     by false = refl
 measured-row endless = refl
 
--- the row of or and of cons, whose parts are lower
-pub pair-row : (n a b : ℕ) (s : Size) {m : Measured} {w : Weighed} → a < n → b < n → m ≡ measured s → w ≡ weighedOf m
-    → w ≡ coded (row (asks (ltb a n && ltb b n) Reference ∷ asks (fits s) TooLarge ∷ []) s)
+-- the row of or and of cons, whose parts are lower: f is their sum or their product
+pub pair-row : (f : Size → Size → Size) (z : ℕ → Size) (n a b : ℕ) {m : Measured} {w : Weighed} → a < n → b < n → m ≡ measured (f (z a) (z b)) → w ≡ weighedOf m
+    → let s = f (before z n a) (before z n b) in w ≡ coded (row (asks (ltb a n && ltb b n) Reference ∷ asks (fits s) TooLarge ∷ []) s)
 unfolding row
-pair-row n a b s l k m w = rw (w, m, lt-ltb a n l, lt-ltb b n k) (measured-row s)
+pair-row f z n a b l k m w = rw (w, m, lt-ltb a n l, lt-ltb b n k) (measured-row (f (z a) (z b)))
 
 -- ---- one node more
 and-swap : (a b c : Bool) → (a && (b && c)) ≡ (b && (a && c))
@@ -138,28 +139,24 @@ endless-total z (c ∷ cs) e f = by (z c) (and-left (isEndless (z c)) (allEndles
     by (finite s) g = absurd (false≢true g)
     by endless g = refl
 
--- the checks that are left of a dep's row, of its seconds cs
-abbrev pub lowerRow : (ℕ → Size) → ℕ → List ℕ → Row
-lowerRow z n cs = further (asks (allLower n cs) Reference ∷ []) (secondsRow z cs)
-
 module _ {z : ℕ → Size} {n : ℕ} {cs : List ℕ} {f s : ℕ} (t : Tally z n cs f s) where
-  tally-all : f ≡ length cs → weighedOf (measured (finite s)) ≡ coded (lowerRow z n cs)
-  unfolding further secondsRow row
+  tally-all : f ≡ length cs → weighedOf (measured (finite s)) ≡ coded (secondsRow n z cs)
+  unfolding row
   tally-all e = rw (← t .all e .1, t .lower, t .all e .0) (measured-row (total z cs))
 
   module _ (l : f < length cs) where
-    tally-no-finite : f ≡ 0 → Weighs (2 ^ 63) ≡ coded (lowerRow z n cs)
-    unfolding further secondsRow row coded
+    tally-no-finite : f ≡ 0 → Weighs (2 ^ 63) ≡ coded (secondsRow n z cs)
+    unfolding row coded
     tally-no-finite e = rw (t .lower, t .not-all l, t .none e, endless-total z cs (t .none e) (t .not-all l))
 
-    tally-mixed : 0 < f → Fault UnsuitedPart ≡ coded (lowerRow z n cs)
-    unfolding further secondsRow row coded
+    tally-mixed : 0 < f → Fault UnsuitedPart ≡ coded (secondsRow n z cs)
+    unfolding row coded
     tally-mixed k = rw (t .lower, t .not-all l, t .not-none k)
 
 -- ---- the same over a run of the pool, by the facts that the code has
 pub record Passing (plan p : List ℕ) (n at count f s i : ℕ) : Type 0 where
   pub le : i ≤ count
-  pub is : Tally (sizeIn plan) n (take i (drop at p)) f s
+  pub is : Tally (before (sizeIn plan) n) n (take i (drop at p)) f s
 
 pub turn-none : {plan p : List ℕ} {n at count : ℕ} → Passing plan p n at count 0 0 0
 turn-none = record { le = omega arith; is = tally-none }
@@ -170,38 +167,38 @@ module _ {plan p : List ℕ} {n at count f s i : ℕ} (in-p : at + count ≤ len
 
   module _ (l : i < count) where
     -- "each of those m words a lower node"
-    pub turn-not-lower : n ≤ getD p (at + i) 0 → Fault Reference ≡ coded (lowerRow (sizeIn plan) n (take count (drop at p)))
-    unfolding further coded
+    pub turn-not-lower : n ≤ getD p (at + i) 0 → Fault Reference ≡ coded (secondsRow n (before (sizeIn plan) n) (take count (drop at p)))
+    unfolding row coded
     turn-not-lower u = rw (← lower-not n p at count in-p i l u)
 
     module _ (u : getD p (at + i) 0 < n) where
-      more : {g q : ℕ} → Tally (sizeIn plan) n (take i (drop at p) ++ (getD p (at + i) 0 ∷ [])) g q → Passing plan p n at count g q (i + 1)
+      more : {g q : ℕ} → Tally (before (sizeIn plan) n) n (take i (drop at p) ++ (getD p (at + i) 0 ∷ [])) g q → Passing plan p n at count g q (i + 1)
       more t =
           let w : i < length (drop at p) = simp length-drop (omega arith) in
           record { le = omega arith; is = rw (add-one, take-suc (drop at p) i 0 w, getD-drop at p i 0) t }
 
       pub turn-endless : 2 ^ 63 ≤ wordAt plan p at i → Passing plan p n at count f s (i + 1)
-      turn-endless h = more (tally-endless (r .is) _ u (sized-endless (wordAt plan p at i) h))
+      turn-endless h = more (tally-endless (r .is) _ u (rw (lt-ltb _ n u) (sized-endless (wordAt plan p at i) h)))
 
       module _ (h : wordAt plan p at i < 2 ^ 63) where
         pub turn-adds : s ≤ 2 ^ 62 → Passing plan p n at count (f + 1) (s + wordAt plan p at i) (i + 1)
-        turn-adds k = more (tally-finite (r .is) _ u (sized-finite (wordAt plan p at i) h) (sum-more s (wordAt plan p at i) _ k))
+        turn-adds k = more (tally-finite (r .is) _ u (rw (lt-ltb _ n u) (sized-finite (wordAt plan p at i) h)) (sum-more s (wordAt plan p at i) _ k))
 
         pub turn-past : 2 ^ 62 < s → Passing plan p n at count (f + 1) s (i + 1)
-        turn-past k = more (tally-finite (r .is) _ u (sized-finite (wordAt plan p at i) h) (sum-past s (wordAt plan p at i) _ k))
+        turn-past k = more (tally-finite (r .is) _ u (rw (lt-ltb _ n u) (sized-finite (wordAt plan p at i) h)) (sum-past s (wordAt plan p at i) _ k))
 
   module _ (l : count ≤ i) where
-    whole : Tally (sizeIn plan) n (take count (drop at p)) f s
+    whole : Tally (before (sizeIn plan) n) n (take count (drop at p)) f s
     whole = let e : i ≡ count = omega (arith, r .le) in rw e at (r .is)
 
     long : length (take count (drop at p)) ≡ count
     long = run-long p at count in-p
 
-    pub end-sum : f ≡ count → s ≤ 2 ^ 62 → Weighs s ≡ coded (lowerRow (sizeIn plan) n (take count (drop at p)))
+    pub end-sum : f ≡ count → s ≤ 2 ^ 62 → Weighs s ≡ coded (secondsRow n (before (sizeIn plan) n) (take count (drop at p)))
     unfolding weighedOf measured
     end-sum e h = rw (le-leb s (2 ^ 62) h) at (tally-all whole (e ∙ sym long))
 
-    pub end-past : f ≡ count → 2 ^ 62 < s → Fault TooLarge ≡ coded (lowerRow (sizeIn plan) n (take count (drop at p)))
+    pub end-past : f ≡ count → 2 ^ 62 < s → Fault TooLarge ≡ coded (secondsRow n (before (sizeIn plan) n) (take count (drop at p)))
     unfolding weighedOf measured
     end-past e h = rw (lt-leb s (2 ^ 62) h) at (tally-all whole (e ∙ sym long))
 
@@ -209,8 +206,8 @@ module _ {plan p : List ℕ} {n at count f s i : ℕ} (in-p : at + count ≤ len
       not-all : f < length (take count (drop at p))
       not-all = omega (arith, long, whole .most)
 
-      pub end-endless : f ≡ 0 → Weighs (2 ^ 63) ≡ coded (lowerRow (sizeIn plan) n (take count (drop at p)))
+      pub end-endless : f ≡ 0 → Weighs (2 ^ 63) ≡ coded (secondsRow n (before (sizeIn plan) n) (take count (drop at p)))
       end-endless e = tally-no-finite whole not-all e
 
-      pub end-mixed : (f ≡ 0 → ⊥) → Fault UnsuitedPart ≡ coded (lowerRow (sizeIn plan) n (take count (drop at p)))
+      pub end-mixed : (f ≡ 0 → ⊥) → Fault UnsuitedPart ≡ coded (secondsRow n (before (sizeIn plan) n) (take count (drop at p)))
       end-mixed e = tally-mixed whole not-all (omega arith)

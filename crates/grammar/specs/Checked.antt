@@ -1,5 +1,5 @@
--- A table whose nodes have passed their rows.
---   Checked    its lengths are right, every check of every node is passed, its rules keep the law, and z has its sizes
+-- What is known of a table whose nodes have passed.
+--   Checked    every check of every node holds, the rules keep the law, and the sizes are theirs
 -- Assumes nothing.
 use mathlib.Core.Path.{_≡_}
 use mathlib.Core.List.{List}
@@ -7,12 +7,15 @@ use Prim.Native.Nat.{ℕ, _*_, _≤_, _<_}
 use lib.ListN.{length}
 use Rattle.numbers.specs.Size.{Size}
 use Rattle.grammar.specs.Table.{kindOf, nodes}
+use Rattle.grammar.specs.Checks.{Fit}
 use Rattle.grammar.specs.Kind.{before, Holds}
 use Rattle.grammar.specs.Nodes.{kindIn, nodeAt, ruleAt}
 use Rattle.grammar.specs.Law.{Good}
 
+-- z has the sizes
 pub record Checked (t p : List ℕ) (z : ℕ → Size) : Type 0 where
   pub whole : length t ≡ 3 * nodes t
   pub few : nodes t ≤ 256
   pub holds : (n : ℕ) → n < nodes t → Holds (kindIn (kindOf t n) .checks (nodeAt t p n) (before z n))
   pub good : Good z (nodes t) (ruleAt t p z)
+  pub fit : (n : ℕ) → n < nodes t → Fit (z n)

@@ -36,8 +36,8 @@ lower v a = ltb a (v .own)
 abbrev pub before : (ℕ → Size) → ℕ → ℕ → Size
 before z n i = pick (ltb i n) (z i) (finite 0)
 
-abbrev pub spare : Kind → Node → Bool
-spare k v = (k .usesA || eqb (v .a) 0) && (k .usesB || eqb (v .b) 0)
+abbrev pub spare : Kind → ℕ → ℕ → Bool
+spare k a b = (k .usesA || eqb a 0) && (k .usesB || eqb b 0)
 
 abbrev pub Holds : List Check → Type 0
 Holds [] = Unit {0}

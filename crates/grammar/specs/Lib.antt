@@ -8,10 +8,6 @@ pub mod kinds
 pub mod Nodes
 pub mod Law
 pub mod Checked
-pub mod Node
-pub mod Used
-pub mod Rows
-pub mod Sound
 pub mod Sizes
 pub mod Steps
 pub mod Verdict

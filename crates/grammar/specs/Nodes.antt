@@ -1,11 +1,12 @@
 -- 01's table of kinds, and what it makes of a table's nodes.
 --   kinds     the kinds by their numbers
---   nodeAt    what the row of node n looks at
+--   usedWords the constant table of used words: a row of yes and no for each kind
+--   nodeWith, nodeAt   what a row looks at: of node n with words a and b, and of node n with its own words
 --   ruleAt    the rule of node n; z has the sizes
 --   rowAt     the row of node n: the spare words, its kind's checks, its size
 -- Assumes nothing.
-use mathlib.Core.Bool.{false, true}
-use mathlib.Core.List.{List, [], _∷_}
+use mathlib.Core.Bool.{Bool, false, true}
+use mathlib.Core.List.{List, [], _∷_, map}
 use Prim.Native.Nat.{ℕ}
 use lib.ListN.{getD}
 use Rattle.numbers.specs.Size.{Size, finite}
@@ -28,7 +29,11 @@ use Rattle.grammar.specs.kinds.Again.{again}
 abbrev pub kinds : List Kind
 kinds = below ∷ nats ∷ pool ∷ shift ∷ or ∷ cons ∷ dep ∷ except ∷ fix ∷ again ∷ []
 
--- "kind known (2)"
+-- "One constant table says which of a and b each kind uses"
+abbrev pub usedWords : List (List Bool)
+usedWords = map (λ k. k .usesA ∷ k .usesB ∷ []) kinds
+
+-- "kind known (2)": of a kind that is not known nothing is spare, and its one check fails
 abbrev pub unknown : Kind
 unknown = record {
   usesA = true;
@@ -40,8 +45,11 @@ unknown = record {
 abbrev pub kindIn : ℕ → Kind
 kindIn word = getD kinds word unknown
 
+abbrev pub nodeWith : List ℕ → List ℕ → ℕ → ℕ → ℕ → Node
+nodeWith t p n a b = record { own = n; a = a; b = b; kind = kindOf t; nodes = nodes t; pool = p }
+
 abbrev pub nodeAt : List ℕ → List ℕ → ℕ → Node
-nodeAt t p n = record { own = n; a = aOf t n; b = bOf t n; kind = kindOf t; nodes = nodes t; pool = p }
+nodeAt t p n = nodeWith t p n (aOf t n) (bOf t n)
 
 unfoldable pub ruleAt : List ℕ → List ℕ → (ℕ → Size) → ℕ → Rule
 ruleAt t p z n = kindIn (kindOf t n) .rule (aOf t n) (bOf t n) p (before z n)
@@ -49,5 +57,4 @@ ruleAt t p z n = kindIn (kindOf t n) .rule (aOf t n) (bOf t n) p (before z n)
 unfoldable pub rowAt : List ℕ → List ℕ → (ℕ → Size) → ℕ → Row
 rowAt t p z n =
     let k = kindIn (kindOf t n) in
-    let v = nodeAt t p n in
-    row (asks (spare k v) SpareWord ∷ k .checks v (before z n)) (ruleAt t p z n .size)
+    row (asks (spare k (aOf t n) (bOf t n)) SpareWord ∷ k .checks (nodeAt t p n) (before z n)) (ruleAt t p z n .size)

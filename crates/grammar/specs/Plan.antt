@@ -4,19 +4,20 @@
 --   nodeIn, ruleIn   the node and its rule, by the plan
 --   rowed      a plan with node n's four words put in
 --   coded, weighedOf   a row's outcome, and a measured size, in the code's words
+--   weighed    what the check of a kind answers of a node: its row but for the spare words
 --   Planned    the plan holds the nodes below n, with the sizes zs
 --   Ready      the table is checked, with the sizes of the plan
 --   AllWeighed the first fault and its node, or the plan of the whole table
 -- Assumes nothing.
 use mathlib.Core.Path.{_≡_}
 use mathlib.Core.List.{List}
-use Prim.Native.Nat.{ℕ, _+_, _*_, _^_, _≤_, _<_}
+use Prim.Native.Nat.{ℕ, _+_, _*_, _≤_, _<_}
 use lib.ListN.{length, getD, set}
-use Rattle.numbers.specs.Size.{Size, finite, endless, codeOf, sizeOf}
+use Rattle.numbers.specs.Size.{Size, codeOf, sizeOf}
 use Rattle.grammar.specs.Table.{kindOf, aOf, bOf, nodes}
-use Rattle.grammar.specs.Checks.{Row, fault, sized}
+use Rattle.grammar.specs.Checks.{Row, fault, sized, row, Fit}
 use Rattle.grammar.specs.Rule.{Rule}
-use Rattle.grammar.specs.Kind.{Node, before}
+use Rattle.grammar.specs.Kind.{Node, Kind, before}
 use Rattle.grammar.specs.Nodes.{kindIn}
 use Rattle.grammar.specs.Checked.{Checked}
 use Rattle.grammar.specs.Sizes.{sizeAt, scan, passed, faulty, sizes}
@@ -59,10 +60,9 @@ unfoldable pub weighedOf : Measured → Weighed
 weighedOf (Measures s) = Of s
 weighedOf Past = Fault TooLarge
 
--- a size up to 2^62, or endless
-abbrev pub Small : Size → Type 0
-Small (finite s) = s ≤ 2 ^ 62
-Small endless = Unit {0}
+-- z has the sizes, of which a row looks at those before it
+unfoldable pub weighed : Kind → Node → (ℕ → Size) → Weighed
+weighed k v z = let y = before z (v .own) in coded (row (k .checks v y) (k .rule (v .a) (v .b) (v .pool) y .size))
 
 pub record Planned (t : List ℕ) (zs : List Size) (n : ℕ) (plan : List ℕ) : Type 0 where
   pub long : 4 * nodes t ≤ length plan
@@ -72,7 +72,7 @@ pub record Planned (t : List ℕ) (zs : List Size) (n : ℕ) (plan : List ℕ) :
   pub b : (k : ℕ) → k < n → getD plan (4 * k + 2) 0 ≡ bOf t k
   pub blank : (k : ℕ) → n ≤ k → (getD plan (4 * k) 0 ≡ 0) × (getD plan (4 * k + 1) 0 ≡ 0) × (getD plan (4 * k + 2) 0 ≡ 0)
   pub size : (k : ℕ) → getD plan (4 * k + 3) 0 ≡ codeOf (sizeAt zs k)
-  pub small : (k : ℕ) → Small (sizeAt zs k)
+  pub fit : (k : ℕ) → k < n → Fit (sizeAt zs k)
 
 -- ---- what the nodes of a table show, rising
 abbrev pub WeighedBy : List ℕ → List ℕ → List ℕ → Verdict → Type 0

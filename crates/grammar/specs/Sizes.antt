@@ -10,7 +10,7 @@ use lib.ListN.{getD}
 use Rattle.numbers.specs.Size.{Size, finite}
 use Rattle.grammar.specs.Table.{nodes}
 use Rattle.grammar.specs.Checks.{Row, fault, sized}
-use Rattle.grammar.specs.Rows.{rowAt}
+use Rattle.grammar.specs.Nodes.{rowAt}
 use Rattle.grammar.specs.declared.refusal.Refusal.{Refusal}
 
 pub data Scan : Type 0 where

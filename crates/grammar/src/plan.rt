@@ -1,14 +1,11 @@
 // The nodes of a table, one after the other, and the plan that they are put into.
 ghost use mathlib.Core.Path.{_≡_};
-ghost use mathlib.Core.Bool.{_||_};
 ghost use Prim.Native.Nat.{_+_, _*_, _<_, _≤_};
-ghost use lib.Dec.{eqb};
 ghost use lib.ListN.{length, replicate};
 ghost use Rattle.grammar.specs.Table.{nodes};
-ghost use Rattle.grammar.specs.Node.{nodeOf, spare};
-ghost use Rattle.grammar.specs.Used.{usedAt, UsedWords};
-ghost use Rattle.grammar.specs.Rows.{rowOf, rowAt};
-ghost use Rattle.grammar.specs.Plan.{sizeIn, coded, rowed, AllWeighed};
+ghost use Rattle.grammar.specs.Kind.{spare};
+ghost use Rattle.grammar.specs.Nodes.{usedWords, kindIn, nodeWith, rowAt};
+ghost use Rattle.grammar.specs.Plan.{sizeIn, coded, weighed, rowed, AllWeighed};
 use super::kinds;
 use super::kinds::AGAIN;
 use super::kinds::BELOW;
@@ -24,55 +21,38 @@ use super::kinds::Weighed;
 use super::refusal::Refusal;
 use super::refusal::Verdict;
 
+// The length of the table of used words: kind words from here on are not known.
+const KINDS: usize = 10;
+
 // "One constant table says which of a and b each kind uses": yes or no for a and for b, a row a kind.
-const USED: [bool; 20] = [
-    true,
-    false, // below: count
-    false,
-    false, // nats: none
-    true,
-    true, // pool: place, count
-    true,
-    true, // shift: node, k
-    true,
-    true, // or: nodes
-    true,
-    true, // cons: nodes
-    true,
-    true, // dep: node, place
-    true,
-    true, // except: node, number
-    true,
-    false, // fix: body
-    true,
-    false, // again: fix
+const USED: [[bool; 2]; 10] = [
+    [true, false],  // below: count
+    [false, false], // nats: none
+    [true, true],   // pool: place, count
+    [true, true],   // shift: node, k
+    [true, true],   // or: nodes
+    [true, true],   // cons: nodes
+    [true, true],   // dep: node, place
+    [true, true],   // except: node, number
+    [true, false],  // fix: body
+    [true, false],  // again: fix
 ];
 
-// "a word not used is zero": of one word, by its entry in the table.
-fn used_or_zero(used: &[bool; 20], entry: usize, word: u64) -> bool
-    requires { ⌜ UsedWords (now used) × (entry < 20) ⌝ }
-    ensures { λ r. ⌜ r ≡ (usedAt entry || eqb word 0) ⌝ }
+// "a word not used is zero". Of a kind that is not known nothing is spare, so that its row refuses it (2).
+fn spare_words(used: &[[bool; 2]; 10], kind: usize, a: u64, b: u64) -> bool
+    requires { ⌜ now used ≡ usedWords ⌝ }
+    ensures { λ r. ⌜ r ≡ spare (kindIn kind) a b ⌝ }
 {
-    if used[entry] {
+    if KINDS <= kind {
         return true;
     }
-    word == 0
+    (used[kind][0] || a == 0) && (used[kind][1] || b == 0)
 }
 
-fn spare_words(used: &[bool; 20], kind: usize, a: u64, b: u64) -> bool
-    requires { ⌜ UsedWords (now used) × (kind < 10) ⌝ }
-    ensures { λ r. ⌜ r ≡ spare (nodeOf kind a b) a b ⌝ }
-{
-    if used_or_zero(used, 2 * kind, a) {
-        return used_or_zero(used, 2 * kind + 1, b);
-    }
-    false
-}
-
-// The row of a node whose kind is known and whose spare words are zero.
+// The row of a node whose spare words are zero, by its kind.
 fn row(table: &[u64], pool: &[u64], plan: &[u64], n: usize, kind: u64, a: u64, b: u64) -> Weighed
     requires { ⌜ (length (now table) ≡ 3 * nodes (now table)) × (n < nodes (now table)) × (4 * n ≤ length (now plan)) ⌝ }
-    ensures { λ r. ⌜ r ≡ coded (rowOf (now (table .entry)) (now (pool .entry)) (sizeIn (now (plan .entry))) n (nodeOf kind a b)) ⌝ }
+    ensures { λ r. ⌜ r ≡ weighed (kindIn kind) (nodeWith (now (table .entry)) (now (pool .entry)) n a b) (sizeIn (now (plan .entry))) ⌝ }
 {
     match kind {
         BELOW => kinds::below::check(a),
@@ -89,18 +69,15 @@ fn row(table: &[u64], pool: &[u64], plan: &[u64], n: usize, kind: u64, a: u64, b
     }
 }
 
-// "kind known (2) before the row"
-fn weigh(used: &[bool; 20], table: &[u64], pool: &[u64], plan: &[u64], n: usize) -> Weighed
-    requires { ⌜ UsedWords (now used) ⌝ }
+// The whole row of node n.
+fn weigh(used: &[[bool; 2]; 10], table: &[u64], pool: &[u64], plan: &[u64], n: usize) -> Weighed
+    requires { ⌜ now used ≡ usedWords ⌝ }
     requires { ⌜ (length (now table) ≡ 3 * nodes (now table)) × (n < nodes (now table)) × (4 * n ≤ length (now plan)) ⌝ }
     ensures { λ r. ⌜ r ≡ coded (rowAt (now (table .entry)) (now (pool .entry)) (sizeIn (now (plan .entry))) n) ⌝ }
 {
     let kind = table[3 * n];
     let a = table[3 * n + 1];
     let b = table[3 * n + 2];
-    if AGAIN < kind {
-        return Weighed::Fault(Refusal::Kind);
-    }
     if spare_words(used, kind as usize, a, b) {
         return row(table, pool, plan, n, kind, a, b);
     }

@@ -11,7 +11,7 @@ use Rattle.grammar.proofs.Tests.{and-left, and-right}
 use Rattle.grammar.specs.Rule.{own, done, fails, reads}
 use Rattle.grammar.specs.Law.{Lawful}
 use Rattle.grammar.proofs.Trees.{spell-done, spell-takes, spell-left, read-pick, names-pick}
-use Rattle.grammar.proofs.KindLaw.{KindLaw}
+use Rattle.grammar.proofs.KindLaw.{KindLaw, Lower}
 use Rattle.grammar.specs.kinds.Below.{belowRule, below}
 
 below-rule : (z : ℕ → Size) (count a : ℕ) → Lawful z count (belowRule a)
@@ -31,3 +31,7 @@ below-law = record {
   lawful = λ v z r h. below-rule z (v .nodes) (v .a);
   fit = λ v z f h. unfold belowRule in (leb-true 1 (v .a) (and-left _ _ (h .0)), leb-true (v .a) (2 ^ 62) (and-right (leb 1 (v .a)) _ (h .0)));
 }
+
+pub below-lower : Lower below
+unfolding belowRule
+below-lower v z h = tt

@@ -8,11 +8,11 @@ use native.Mathlib.Omega.{arith}
 use lib.Dec.{ltb}
 use borrow.Author.Tests.{ltb-true, leb-true}
 use Rattle.numbers.specs.Size.{Size, finite, endless, Some, times}
-use Rattle.grammar.specs.Checks.{fits}
+use Rattle.grammar.specs.Checks.{Fit, fits}
 use Rattle.grammar.proofs.Tests.{and-left, and-right}
 use Rattle.grammar.specs.Rule.{own, reads}
 use Rattle.grammar.specs.Law.{flat, Lawful}
-use Rattle.grammar.proofs.KindLaw.{Fit, fit-some, KindLaw}
+use Rattle.grammar.proofs.KindLaw.{fit-some, KindLaw, Lower}
 use native.Mathlib.Nat.{mul-le-mul}
 use Rattle.numbers.specs.Cons
 use Rattle.numbers.proofs.cons.Laws as Conses
@@ -55,3 +55,8 @@ cons-law = record {
       let eb = and-right (ltb (v .a) (v .own)) (ltb (v .b) (v .own)) (h .0) in
       unfold consRule in rw (ea, eb) (fit-times (z (v .a)) (z (v .b)) (f (v .a) (ltb-true (v .a) (v .own) ea)) (f (v .b) (ltb-true (v .b) (v .own) eb)) (rw (ea, eb) at (h .1 .0)));
 }
+
+pub cons-lower : Lower cons
+unfolding consRule
+cons-lower v z h = 
+    (ltb-true (v .a) (v .own) (and-left _ (ltb (v .b) (v .own)) (h .0)), (ltb-true (v .b) (v .own) (and-right (ltb (v .a) (v .own)) _ (h .0)), tt))

@@ -9,14 +9,14 @@ use lib.Dec.{ltb}
 use lib.ListN.{length, getD}
 use borrow.Author.Tests.{ltb-true, leb-true}
 use Rattle.numbers.specs.Size.{Size, finite, endless, Below, Some, plus}
-use Rattle.grammar.specs.Checks.{fits, isEndless}
+use Rattle.grammar.specs.Checks.{Fit, fits, isEndless}
 use Rattle.grammar.proofs.Tests.{and-left, and-right}
 use Rattle.grammar.specs.Rule.{own, reads}
 use Rattle.grammar.specs.Law.{Under, flat, Lawful}
 use Rattle.grammar.specs.Kind.{Node, before, Holds}
-use Rattle.grammar.proofs.KindLaw.{Fit, fit-some, KindLaw}
+use Rattle.grammar.proofs.KindLaw.{fit-some, KindLaw, Lower}
 use mathlib.Core.List.{List·Memᴰ}
-use native.Mathlib.Nat.{not-suc-le-zero, le-of-suc-le-suc}
+use native.Mathlib.Nat.{le-refl, not-suc-le-zero, le-of-suc-le-suc}
 use lib.ListN.{length-take, length-drop}
 use Rattle.numbers.specs.Dep
 use Rattle.numbers.specs.Dep.{Seconds}
@@ -189,3 +189,7 @@ dep-law = record {
       let cs = seconds (v .pool) (v .b) (z (v .a)) in
       unfold depRule in rw (h .0, total-before z (v .own) cs (d .lower)) (fit-total z (v .own) f cs (d .lower) (seconds-many v z f d) (d .fitting));
 }
+
+pub dep-lower : Lower dep
+unfolding depRule
+dep-lower v z h = (ltb-true (v .a) (v .own) (h .0), lower-under (v .own) (v .own) _ (le-refl (v .own)) (h .1 .1 .1 .0))

@@ -9,12 +9,12 @@ use lib.Dec.{eqb, ltb}
 use borrow.Author.Tests.{ltb-true, eqb-false, ne-eqb}
 use Rattle.numbers.specs.Pick.{pick}
 use Rattle.numbers.specs.Size.{Size, finite, endless, Below, less}
-use Rattle.grammar.specs.Checks.{isOne}
+use Rattle.grammar.specs.Checks.{Fit, isOne}
 use Rattle.grammar.proofs.Tests.{and-left}
 use Rattle.grammar.specs.Rule.{own, part, done, fails, reads}
 use Rattle.grammar.specs.Law.{Spells, skip, Lawful}
 use Rattle.grammar.proofs.Trees.{spell-done, spell-reads, spell-right, read-pick, names-pick}
-use Rattle.grammar.proofs.KindLaw.{Fit, KindLaw}
+use Rattle.grammar.proofs.KindLaw.{KindLaw, Lower}
 use Rattle.numbers.specs.Except
 use Rattle.numbers.proofs.size.Laws.{below-is}
 use Rattle.numbers.proofs.except.Laws as Excepts
@@ -53,3 +53,7 @@ except-law = record {
       rw (h .0) (except-rule z (v .nodes) (v .a) (v .b) (omega (arith, r .node)) hb);
   fit = λ v z f h. unfold exceptRule in rw (h .0) (fit-less (z (v .a)) (f (v .a) (ltb-true (v .a) (v .own) (h .0))) (rw (h .0) at (h .1 .0)));
 }
+
+pub except-lower : Lower except
+unfolding exceptRule
+except-lower v z h = (ltb-true (v .a) (v .own) (h .0), tt)

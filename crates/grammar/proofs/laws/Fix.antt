@@ -12,7 +12,7 @@ use Rattle.grammar.specs.Checks.{isEndless}
 use Rattle.grammar.specs.Rule.{own, done, reads}
 use Rattle.grammar.specs.Law.{flat, Lawful}
 use Rattle.grammar.proofs.Trees.{spell-done, spell-reads}
-use Rattle.grammar.proofs.KindLaw.{KindLaw}
+use Rattle.grammar.proofs.KindLaw.{KindLaw, Lower}
 use Rattle.grammar.specs.kinds.Fix.{passRule, fix}
 
 pub pass-rule : (z : ℕ → Size) (count a : ℕ) → a < count → z a ≡ endless → Lawful z count (passRule a)
@@ -38,3 +38,7 @@ fix-law = record {
       pass-rule z (v .nodes) (v .a) (omega (arith, r .node)) (is-endless (z (v .a)) (rw (h .0) at (h .1 .0)));
   fit = λ v z f h. unfold passRule in tt;
 }
+
+pub fix-lower : Lower fix
+unfolding passRule
+fix-lower v z h = (ltb-true (v .a) (v .own) (h .0), tt)

@@ -6,7 +6,7 @@ use Rattle.numbers.specs.Size.{Size}
 use Rattle.grammar.specs.Rule.{done, reads}
 use Rattle.grammar.specs.Law.{Lawful}
 use Rattle.grammar.proofs.Trees.{spell-done, spell-takes}
-use Rattle.grammar.proofs.KindLaw.{KindLaw}
+use Rattle.grammar.proofs.KindLaw.{KindLaw, Lower}
 use Rattle.grammar.specs.kinds.Nats.{natsRule, nats}
 
 nats-rule : (z : ℕ → Size) (count : ℕ) → Lawful z count natsRule
@@ -23,3 +23,7 @@ nats-rule z count = record {
 
 pub nats-law : KindLaw nats
 nats-law = record { lawful = λ v z r h. nats-rule z (v .nodes); fit = λ v z f h. unfold natsRule in tt }
+
+pub nats-lower : Lower nats
+unfolding natsRule
+nats-lower v z h = tt

@@ -8,12 +8,12 @@ use native.Mathlib.Omega.{arith}
 use lib.Dec.{eqb, ltb}
 use borrow.Author.Tests.{ltb-true, leb-true, eqb-true}
 use Rattle.numbers.specs.Size.{Size, finite, endless, Below, Some, plus}
-use Rattle.grammar.specs.Checks.{fits}
+use Rattle.grammar.specs.Checks.{Fit, fits}
 use Rattle.grammar.proofs.Tests.{and-left, and-right}
 use Rattle.grammar.specs.Rule.{Item, own, reads, Rule}
 use Rattle.grammar.specs.Law.{Spells, Each, Down, flat, guarded, Lawful}
 use Rattle.grammar.proofs.Trees.{spell-done, spell-takes, spell-reads, read-pick, names-pick}
-use Rattle.grammar.proofs.KindLaw.{Fit, fit-some, KindLaw}
+use Rattle.grammar.proofs.KindLaw.{fit-some, KindLaw, Lower}
 use Rattle.numbers.specs.Or
 use Rattle.numbers.specs.Or.{PartBelow, turn}
 use Rattle.numbers.specs.declared.or.Part.{Part}
@@ -79,3 +79,8 @@ or-law = record {
       let eb = and-right (ltb (v .a) (v .own)) (ltb (v .b) (v .own)) (h .0) in
       unfold orRule in rw (ea, eb) (fit-plus (z (v .a)) (z (v .b)) (f (v .a) (ltb-true (v .a) (v .own) ea)) (rw (ea, eb) at (h .1 .0)));
 }
+
+pub or-lower : Lower or
+unfolding orRule
+or-lower v z h = 
+    (ltb-true (v .a) (v .own) (and-left _ (ltb (v .b) (v .own)) (h .0)), (ltb-true (v .b) (v .own) (and-right (ltb (v .a) (v .own)) _ (h .0)), tt))

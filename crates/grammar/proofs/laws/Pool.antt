@@ -14,7 +14,7 @@ use Rattle.grammar.proofs.Tests.{and-left, and-right}
 use Rattle.grammar.specs.Rule.{own, done, fails, reads}
 use Rattle.grammar.specs.Law.{Lawful}
 use Rattle.grammar.proofs.Trees.{spell-done, spell-takes, spell-left, read-pick, names-pick}
-use Rattle.grammar.proofs.KindLaw.{KindLaw}
+use Rattle.grammar.proofs.KindLaw.{KindLaw, Lower}
 use Rattle.graph.specs.Ways.{has}
 use Rattle.grammar.specs.Checks.{different}
 use Rattle.grammar.proofs.Runs.{run-long}
@@ -51,3 +51,7 @@ pool-law = record {
       let hi = leb-true (v .b) 4096 (and-right (leb 1 (v .b)) _ l) in
       (omega arith, omega arith);
 }
+
+pub pool-lower : Lower pool
+unfolding poolRule
+pool-lower v z h = tt

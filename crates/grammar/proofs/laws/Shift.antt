@@ -10,7 +10,7 @@ use Rattle.numbers.specs.Size.{Size}
 use Rattle.grammar.specs.Rule.{own, done, reads}
 use Rattle.grammar.specs.Law.{flat, Lawful}
 use Rattle.grammar.proofs.Trees.{spell-done, spell-reads}
-use Rattle.grammar.proofs.KindLaw.{KindLaw}
+use Rattle.grammar.proofs.KindLaw.{KindLaw, Lower}
 use Rattle.grammar.specs.kinds.Shift.{shiftRule, shift}
 
 shift-rule : (z : ℕ → Size) (count a k : ℕ) → a < count → Lawful z count (shiftRule (z a) a k)
@@ -30,3 +30,7 @@ shift-law = record {
   lawful = λ v z r h. rw (h .0) (shift-rule z (v .nodes) (v .a) (v .b) (omega (arith, r .node, ltb-true (v .a) (v .own) (h .0))));
   fit = λ v z f h. unfold shiftRule in rw (h .0) (f (v .a) (ltb-true (v .a) (v .own) (h .0)));
 }
+
+pub shift-lower : Lower shift
+unfolding shiftRule
+shift-lower v z h = (ltb-true (v .a) (v .own) (h .0), tt)

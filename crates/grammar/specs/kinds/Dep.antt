@@ -1,6 +1,7 @@
 -- 6 dep | node, place | a lower (4); its size m finite, at most 256 (7); b+m within the pool (5); each of those m words a lower node (4);
 -- all finite or all endless (7); size (8) | sum of the seconds
---   secondsOf   a dep's seconds, by their sizes
+--   secondsOf       a dep's seconds, by their sizes
+--   secondsChecks, secondsRow   what is asked of them, and the rest of the row from there on
 -- Assumes nothing.
 use mathlib.Core.Bool.{true, false, _||_}
 use mathlib.Core.List.{List, [], _∷_, map}
@@ -10,7 +11,7 @@ use Rattle.numbers.specs.Pick.{pick}
 use Rattle.numbers.specs.Size.{Size}
 use Rattle.numbers.specs.Dep.{Seconds, finites, endlesses, split, join}
 use Rattle.numbers.specs.declared.cons.Pair.{Pair}
-use Rattle.grammar.specs.Checks.{asks, fits, few, within, count, seconds, total, allLower, allFinite, allEndless}
+use Rattle.grammar.specs.Checks.{Check, asks, Row, row, fits, few, within, count, seconds, total, allLower, allFinite, allEndless}
 use Rattle.grammar.specs.declared.refusal.Refusal.the-variants.{Reference, Range, UnsuitedPart, TooLarge}
 use Rattle.grammar.specs.Rule.{Item, part, done, reads, Rule}
 use Rattle.grammar.specs.Kind.{Kind, lower}
@@ -36,12 +37,18 @@ depRule s zs a cs = record {
   skips = false;
 }
 
+-- of the seconds cs of node n
+abbrev pub secondsChecks : ℕ → (ℕ → Size) → List ℕ → List Check
+secondsChecks n z cs = asks (allLower n cs) Reference ∷ asks (allFinite z cs || allEndless z cs) UnsuitedPart ∷ asks (fits (total z cs)) TooLarge ∷ []
+
+abbrev pub secondsRow : ℕ → (ℕ → Size) → List ℕ → Row
+secondsRow n z cs = row (secondsChecks n z cs) (total z cs)
+
 abbrev pub dep : Kind
 dep = record {
   usesA = true;
   usesB = true;
-  checks = λ v z. let cs = seconds (v .pool) (v .b) (z (v .a)) in
-      asks (lower v (v .a)) Reference ∷ asks (few (z (v .a))) UnsuitedPart ∷ asks (within (v .b) (count (z (v .a))) (v .pool)) Range
-      ∷ asks (allLower (v .own) cs) Reference ∷ asks (allFinite z cs || allEndless z cs) UnsuitedPart ∷ asks (fits (total z cs)) TooLarge ∷ [];
+  checks = λ v z. asks (lower v (v .a)) Reference ∷ asks (few (z (v .a))) UnsuitedPart ∷ asks (within (v .b) (count (z (v .a))) (v .pool)) Range
+      ∷ secondsChecks (v .own) z (seconds (v .pool) (v .b) (z (v .a)));
   rule = λ a b p z. let cs = seconds p b (z a) in depRule (total z cs) (secondsOf z cs) a cs;
 }

@@ -1,21 +1,20 @@
 // 6 dep | node, place | a lower (4); its size m finite, at most 256 (7); b+m within the pool (5); each of those m words
 // a lower node (4); all finite or all endless (7); size (8) | sum of the seconds
 ghost use mathlib.Core.Path.{_≡_};
-ghost use mathlib.Core.List.{List, [], _∷_};
+ghost use mathlib.Core.List.{List, _∷_};
 ghost use Prim.Native.Nat.{ℕ, _+_, _*_, _^_, _<_, _≤_};
 ghost use lib.ListN.{length, getD, take, drop};
 ghost use Rattle.numbers.specs.Joined.{capped};
 ghost use Rattle.numbers.specs.Dep.{inTurn};
 ghost use Rattle.numbers.specs.Dep;
-ghost use Rattle.grammar.specs.Checks.{allLower, asks};
 ghost use Rattle.grammar.specs.Checks.{count as countOf};
 ghost use Rattle.grammar.specs.Checks.{seconds as secondsFrom};
+ghost use Rattle.grammar.specs.Kind.{before};
+ghost use Rattle.grammar.specs.Nodes.{nodeWith};
+ghost use Rattle.grammar.specs.Plan.{sizeIn, coded, weighed};
 ghost use Rattle.grammar.specs.Named.{Names};
-ghost use Rattle.grammar.specs.Rows.{further, secondsRow, depRow};
-ghost use Rattle.grammar.specs.Plan.{sizeIn, coded};
-ghost use Rattle.grammar.specs.kinds.Dep.{counts, secondsOf};
+ghost use Rattle.grammar.specs.kinds.Dep.{counts, secondsOf, secondsRow, dep};
 ghost use Rattle.grammar.specs.Seconds.{firsts, DepIn};
-ghost use Rattle.grammar.specs.declared.refusal.Refusal.the-variants.{Reference};
 use super::super::refusal::Refusal;
 use super::super::steps::Named;
 use super::Weighed;
@@ -29,7 +28,7 @@ const MOST_FIRSTS: u64 = 256;
 
 pub fn check(pool: &[u64], plan: &[u64], n: usize, a: usize, b: usize) -> Weighed
     requires { ⌜ 4 * n ≤ length (now plan) ⌝ }
-    ensures { λ r. ⌜ r ≡ coded (depRow (now (pool .entry)) (sizeIn (now (plan .entry))) n a b) ⌝ }
+    ensures { λ r. ⌜ ((t : List ℕ) → r ≡ weighed dep (nodeWith t (now (pool .entry)) n a b) (sizeIn (now (plan .entry)))) ⌝ }
 {
     if n <= a {
         return Weighed::Fault(Refusal::Reference);
@@ -52,7 +51,7 @@ pub fn check(pool: &[u64], plan: &[u64], n: usize, a: usize, b: usize) -> Weighe
 // so a second that is not lower refuses at once, and the sizes are judged after the last one.
 fn seconds(pool: &[u64], plan: &[u64], n: usize, at: usize, count: usize) -> Weighed
     requires { ⌜ (at + count ≤ length (now pool)) × (4 * n ≤ length (now plan)) ⌝ }
-    ensures { λ r. ⌜ r ≡ coded (further (asks (allLower n (take count (drop at (now (pool .entry))))) Reference ∷ []) (secondsRow (sizeIn (now (plan .entry))) (take count (drop at (now (pool .entry)))))) ⌝ }
+    ensures { λ r. ⌜ r ≡ coded (secondsRow n (before (sizeIn (now (plan .entry))) n) (take count (drop at (now (pool .entry))))) ⌝ }
 {
     // How many are finite so far, and their sum.
     let mut finite = 0;

@@ -1,9 +1,11 @@
 // 7 except | node, number | a lower (4); size of a not 1 (7); b below that size and below 2^62 (5) | one less
 ghost use mathlib.Core.Path.{_≡_};
-ghost use Prim.Native.Nat.{_+_, _*_, _≤_};
+ghost use mathlib.Core.List.{List};
+ghost use Prim.Native.Nat.{ℕ, _+_, _*_, _≤_};
 ghost use lib.ListN.{length};
-ghost use Rattle.grammar.specs.Rows.{exceptRow};
-ghost use Rattle.grammar.specs.Plan.{sizeIn, coded};
+ghost use Rattle.grammar.specs.Nodes.{nodeWith};
+ghost use Rattle.grammar.specs.kinds.Except.{except};
+ghost use Rattle.grammar.specs.Plan.{sizeIn, weighed};
 use super::super::refusal::Refusal;
 use super::Weighed;
 use numbers::size;
@@ -11,7 +13,7 @@ use numbers::size::LARGEST;
 
 pub fn check(plan: &[u64], n: usize, a: usize, b: u64) -> Weighed
     requires { ⌜ 4 * n ≤ length (now plan) ⌝ }
-    ensures { λ r. ⌜ r ≡ coded (exceptRow n a b (sizeIn (now (plan .entry)) a)) ⌝ }
+    ensures { λ r. ⌜ ((t p : List ℕ) → r ≡ weighed except (nodeWith t p n a b) (sizeIn (now (plan .entry)))) ⌝ }
 {
     if n <= a {
         return Weighed::Fault(Refusal::Reference);

@@ -4,8 +4,9 @@ ghost use mathlib.Core.List.{List, [], _∷_};
 ghost use Prim.Native.Nat.{ℕ, _+_, _*_, _≤_};
 ghost use lib.ListN.{length};
 ghost use Rattle.numbers.specs.Pick.{pick};
-ghost use Rattle.grammar.specs.Rows.{orRow};
-ghost use Rattle.grammar.specs.Plan.{sizeIn, coded};
+ghost use Rattle.grammar.specs.Nodes.{nodeWith};
+ghost use Rattle.grammar.specs.kinds.Or.{or};
+ghost use Rattle.grammar.specs.Plan.{sizeIn, weighed};
 ghost use Rattle.grammar.specs.Named.{Names};
 use super::super::refusal::Refusal;
 use super::super::steps::Named;
@@ -17,7 +18,7 @@ use numbers::size;
 
 pub fn check(plan: &[u64], n: usize, a: usize, b: usize) -> Weighed
     requires { ⌜ 4 * n ≤ length (now plan) ⌝ }
-    ensures { λ r. ⌜ r ≡ coded (orRow n a b (sizeIn (now (plan .entry)) a) (sizeIn (now (plan .entry)) b)) ⌝ }
+    ensures { λ r. ⌜ ((t p : List ℕ) → r ≡ weighed or (nodeWith t p n a b) (sizeIn (now (plan .entry)))) ⌝ }
 {
     if n <= a {
         return Weighed::Fault(Refusal::Reference);

@@ -1,9 +1,12 @@
 // 2 pool | place, count | 1 <= b <= 4,096 and a+b within the pool (5); words all different (6) | b
 ghost use mathlib.Core.Path.{_≡_};
-ghost use Prim.Native.Nat.{_+_, _≤_};
+ghost use mathlib.Core.List.{List};
+ghost use Prim.Native.Nat.{ℕ, _+_, _≤_};
 ghost use lib.ListN.{length, take, drop};
-ghost use Rattle.grammar.specs.Rows.{poolRow};
-ghost use Rattle.grammar.specs.Plan.{coded};
+ghost use Rattle.numbers.specs.Size.{Size};
+ghost use Rattle.grammar.specs.Nodes.{nodeWith};
+ghost use Rattle.grammar.specs.kinds.Pool.{pool as poolKind};
+ghost use Rattle.grammar.specs.Plan.{weighed};
 ghost use Rattle.grammar.specs.Placed.{placed};
 use super::super::loops;
 use super::super::refusal::Refusal;
@@ -13,7 +16,7 @@ use super::Weighed;
 const MOST_WORDS: usize = 4096;
 
 pub fn check(pool: &[u64], a: usize, b: usize) -> Weighed
-    ensures { λ r. ⌜ r ≡ coded (poolRow (now (pool .entry)) a b) ⌝ }
+    ensures { λ r. ⌜ ((t : List ℕ) (n : ℕ) (z : ℕ → Size) → r ≡ weighed poolKind (nodeWith t (now (pool .entry)) n a b) z) ⌝ }
 {
     if b < 1 {
         return Weighed::Fault(Refusal::Range);

@@ -1,10 +1,12 @@
 // 3 shift | node, k | a lower (4); k <= 2^32 (5); node a of kind 0, 1 or 3 (7) | of a
 ghost use mathlib.Core.Path.{_≡_};
-ghost use Prim.Native.Nat.{_+_, _*_, _<_, _≤_};
+ghost use mathlib.Core.List.{List};
+ghost use Prim.Native.Nat.{ℕ, _+_, _*_, _<_, _≤_};
 ghost use lib.ListN.{length};
 ghost use Rattle.grammar.specs.Table.{kindOf, nodes};
-ghost use Rattle.grammar.specs.Rows.{shiftRow};
-ghost use Rattle.grammar.specs.Plan.{sizeIn, coded};
+ghost use Rattle.grammar.specs.Nodes.{nodeWith};
+ghost use Rattle.grammar.specs.kinds.Shift.{shift};
+ghost use Rattle.grammar.specs.Plan.{sizeIn, weighed};
 use super::super::refusal::Refusal;
 use super::BELOW;
 use super::NATS;
@@ -17,7 +19,7 @@ const LARGEST_SHIFT: u64 = 4294967296;
 
 pub fn check(table: &[u64], plan: &[u64], n: usize, a: usize, k: u64) -> Weighed
     requires { ⌜ (length (now table) ≡ 3 * nodes (now table)) × (n < nodes (now table)) × (4 * n ≤ length (now plan)) ⌝ }
-    ensures { λ r. ⌜ r ≡ coded (shiftRow n a k (sizeIn (now (plan .entry)) a) (kindOf (now (table .entry)) a)) ⌝ }
+    ensures { λ r. ⌜ ((p : List ℕ) → r ≡ weighed shift (nodeWith (now (table .entry)) p n a k) (sizeIn (now (plan .entry)))) ⌝ }
 {
     if n <= a {
         return Weighed::Fault(Refusal::Reference);

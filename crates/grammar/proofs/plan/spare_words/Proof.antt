@@ -1,7 +1,9 @@
--- `grammar::plan::spare_words` is "a word not used is zero", of both words.
+-- `grammar::plan::spare_words` is "a word not used is zero", by the constant table.
 -- Assumes nothing.
 use borrow.Author.Needs.{needs}
-use Rattle.grammar.proofs.Used.{spare-both, spare-not}
+use mathlib.Core.Path.{refl}
+use mathlib.Core.Logic.{⊎-elim}
+use Rattle.grammar.proofs.KindWords.{or-yes, or-no, spare-none, spare-first, spare-second}
 use Rattle.grammar.proofs.plan.spare_words.Statement.{statement}
 use Rattle.grammar.proofs.plan.spare_words.Tie as tie
 
@@ -9,10 +11,13 @@ pub spare-words-spec : {M : Type 1} → statement M
 spare-words-spec =
     tie.close
     (tie.spec
+    (λ c. spare-none (c .before .args .kind) (c .before .args .a) (c .before .args .b) (c .if1 .taken))
     (λ c. search needs)
-    (λ c κs. search needs)
     (λ c. search needs)
     (λ c. search needs)
-    (λ c κs. search needs)
-    (λ c. spare-both _ _ _ (c .before .before .before .pre .1) (c .before .before .used-or-zero .ensures) (c .before .if1 .taken) (c .used-or-zero2 .ensures))
-    (λ c. spare-not _ _ _ (c .before .before .pre .1) (c .before .used-or-zero .ensures) (c .if1 .left)))
+    (λ c. search needs)
+    (λ c. search needs)
+    (λ c. search needs)
+    (λ c. let x = c .before .before .before .before .before .before .args in spare-second (x .kind) (x .a) (x .b) (c .before .before .before .before .before .before .pre) (c .before .before .before .before .before .if1 .left) (⊎-elim (λ w. or-yes _ (w .0 .taken) (w .1)) (λ w. or-no _ (w .0 .left) (w .1)) (c .before .before .before .if2 .came)) (c .before .before .if3 .taken) (or-yes _ (c .if4 .taken) refl))
+    (λ c. let x = c .before .before .before .before .before .before .args in spare-second (x .kind) (x .a) (x .b) (c .before .before .before .before .before .before .pre) (c .before .before .before .before .before .if1 .left) (⊎-elim (λ w. or-yes _ (w .0 .taken) (w .1)) (λ w. or-no _ (w .0 .left) (w .1)) (c .before .before .before .if2 .came)) (c .before .before .if3 .taken) (or-no _ (c .if4 .left) refl))
+    (λ c. let x = c .before .before .before .before .args in spare-first (x .kind) (x .a) (x .b) (c .before .before .before .before .pre) (c .before .before .before .if1 .left) (⊎-elim (λ w. or-yes _ (w .0 .taken) (w .1)) (λ w. or-no _ (w .0 .left) (w .1)) (c .before .if2 .came)) (c .if3 .left)))

@@ -4,9 +4,6 @@ use borrow.Author.Needs.{needs}
 use mathlib.Core.Path.{refl}
 use Prim.Native.Nat.{_-_}
 use native.Mathlib.Omega.{arith}
-use Rattle.grammar.specs.Node.{nodeOf, usesA, usesB}
-use Rattle.grammar.specs.Used.{usedAt}
-use Rattle.grammar.proofs.Used.{entries, used-rule}
 use Rattle.grammar.proofs.Scan.{Weighing, weighing-none, weighing-more, weighing-fault, weighing-end}
 use Rattle.grammar.proofs.plan.weigh_all.Statement.{statement}
 use Rattle.grammar.proofs.plan.weigh_all.Tie as tie
@@ -24,7 +21,7 @@ weigh-all-spec =
     Inv-loop
     μ-loop
     (λ c. search weighing-none)
-    (λ c κs. (unfold entries usedAt usesA usesB nodeOf in used-rule refl, omega arith))
+    (λ c κs. (refl, omega arith))
     (λ c. search needs)
     (λ c. search needs)
     (λ c. search weighing-fault)

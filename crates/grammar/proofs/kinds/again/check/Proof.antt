@@ -3,13 +3,13 @@
 use borrow.Author.Needs.{needs}
 use Rattle.grammar.proofs.Tests.{tests}
 use Rattle.grammar.specs.Checks.{row}
-use Rattle.grammar.specs.Rows.{againRow}
-use Rattle.grammar.specs.Plan.{coded}
+use Rattle.grammar.specs.kinds.Fix.{passRule}
+use Rattle.grammar.specs.Plan.{coded, weighed}
 use Rattle.grammar.proofs.kinds.again.check.Statement.{statement}
 use Rattle.grammar.proofs.kinds.again.check.Tie as tie
 
 pub check-spec : {M : Type 1} → statement M
-unfolding againRow row coded
+unfolding weighed passRule row coded
 check-spec =
     tie.close
     (tie.spec

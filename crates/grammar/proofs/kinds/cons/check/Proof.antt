@@ -1,16 +1,17 @@
 -- `grammar::kinds::cons::check` is the row of cons.
 -- Assumes nothing.
 use borrow.Author.Needs.{needs}
+use Rattle.numbers.specs.Size.{times}
 use Rattle.grammar.proofs.Tests.{tests}
 use Rattle.grammar.specs.Checks.{row}
-use Rattle.grammar.specs.Rows.{consRow}
-use Rattle.grammar.specs.Plan.{coded}
+use Rattle.grammar.specs.kinds.Cons.{consRule}
+use Rattle.grammar.specs.Plan.{sizeIn, coded, weighed}
 use Rattle.grammar.proofs.Sums.{pair-row}
 use Rattle.grammar.proofs.kinds.cons.check.Statement.{statement}
 use Rattle.grammar.proofs.kinds.cons.check.Tie as tie
 
 pub check-spec : {M : Type 1} → statement M
-unfolding consRow
+unfolding weighed consRule
 check-spec =
     tie.close
     (tie.spec
@@ -26,4 +27,4 @@ check-spec =
     (λ c. search needs)
     (λ c κs. search needs)
     (λ c κs. search needs)
-    (λ c. pair-row _ _ _ _ (c .before .before .before .before .before .if1 .left) (c .before .before .before .before .if2 .left) (c .before .product .ensures) (c .of-measured .ensures)))
+    (λ c. λ t p. pair-row times (sizeIn (c .before .before .before .before .before .before .before .args .plan .now)) _ _ _ (c .before .before .before .before .before .if1 .left) (c .before .before .before .before .if2 .left) (c .before .product .ensures) (c .of-measured .ensures)))

@@ -12,8 +12,8 @@ use Rattle.numbers.specs.Size.{below as isBelow}
 use Rattle.numbers.proofs.size.Laws.{by-size}
 use Rattle.grammar.proofs.Tests.{tests}
 use Rattle.grammar.specs.Checks.{row, isOne}
-use Rattle.grammar.specs.Rows.{exceptRow}
-use Rattle.grammar.specs.Plan.{coded}
+use Rattle.grammar.specs.kinds.Except.{exceptRule}
+use Rattle.grammar.specs.Plan.{coded, weighed}
 use Rattle.grammar.proofs.kinds.except.check.Statement.{statement}
 use Rattle.grammar.proofs.kinds.except.check.Tie as tie
 
@@ -31,7 +31,7 @@ module _ (s b : ℕ) where
   is-below h = by-size (λ z. isBelow b z ≡ true) s (λ l. lt-ltb b s h) (λ l. refl)
 
 pub check-spec : {M : Type 1} → statement M
-unfolding exceptRow row coded
+unfolding weighed exceptRule row coded
 check-spec =
     tie.close
     (tie.spec

@@ -2,14 +2,14 @@
 -- Assumes nothing.
 use mathlib.Core.Path.{refl}
 use Rattle.grammar.specs.Checks.{row}
-use Rattle.grammar.specs.Rows.{natsRow}
-use Rattle.grammar.specs.Plan.{coded}
+use Rattle.grammar.specs.kinds.Nats.{natsRule}
+use Rattle.grammar.specs.Plan.{coded, weighed}
 use Rattle.grammar.proofs.kinds.nats.check.Statement.{statement}
 use Rattle.grammar.proofs.kinds.nats.check.Tie as tie
 
 pub check-spec : {M : Type 1} → statement M
-unfolding natsRow row coded
+unfolding weighed natsRule row coded
 check-spec =
     tie.close
     (tie.spec
-    (λ c. refl))
+    (λ c t p n a b z. refl))

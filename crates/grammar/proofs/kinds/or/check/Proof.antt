@@ -1,16 +1,17 @@
 -- `grammar::kinds::or::check` is the row of or.
 -- Assumes nothing.
 use borrow.Author.Needs.{needs}
+use Rattle.numbers.specs.Size.{plus}
 use Rattle.grammar.proofs.Tests.{tests}
 use Rattle.grammar.specs.Checks.{row}
-use Rattle.grammar.specs.Rows.{orRow}
-use Rattle.grammar.specs.Plan.{coded}
+use Rattle.grammar.specs.kinds.Or.{orRule}
+use Rattle.grammar.specs.Plan.{sizeIn, coded, weighed}
 use Rattle.grammar.proofs.Sums.{pair-row}
 use Rattle.grammar.proofs.kinds.or.check.Statement.{statement}
 use Rattle.grammar.proofs.kinds.or.check.Tie as tie
 
 pub check-spec : {M : Type 1} → statement M
-unfolding orRow
+unfolding weighed orRule
 check-spec =
     tie.close
     (tie.spec
@@ -26,4 +27,4 @@ check-spec =
     (λ c. search needs)
     (λ c κs. search needs)
     (λ c κs. search needs)
-    (λ c. pair-row _ _ _ _ (c .before .before .before .before .before .if1 .left) (c .before .before .before .before .if2 .left) (c .before .sum .ensures) (c .of-measured .ensures)))
+    (λ c. λ t p. pair-row plus (sizeIn (c .before .before .before .before .before .before .before .args .plan .now)) _ _ _ (c .before .before .before .before .before .if1 .left) (c .before .before .before .before .if2 .left) (c .before .sum .ensures) (c .of-measured .ensures)))

@@ -3,13 +3,13 @@
 use borrow.Author.Needs.{needs}
 use Rattle.grammar.proofs.Tests.{tests}
 use Rattle.grammar.specs.Checks.{row}
-use Rattle.grammar.specs.Rows.{poolRow}
-use Rattle.grammar.specs.Plan.{coded}
+use Rattle.grammar.specs.kinds.Pool.{poolRule}
+use Rattle.grammar.specs.Plan.{coded, weighed}
 use Rattle.grammar.proofs.kinds.pool.check.Statement.{statement}
 use Rattle.grammar.proofs.kinds.pool.check.Tie as tie
 
 pub check-spec : {M : Type 1} → statement M
-unfolding poolRow row coded
+unfolding weighed poolRule row coded
 check-spec =
     tie.close
     (tie.spec

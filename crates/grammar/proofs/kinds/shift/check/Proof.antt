@@ -3,13 +3,13 @@
 use borrow.Author.Needs.{needs}
 use Rattle.grammar.proofs.Tests.{tests}
 use Rattle.grammar.specs.Checks.{row}
-use Rattle.grammar.specs.Rows.{shiftRow}
-use Rattle.grammar.specs.Plan.{coded}
+use Rattle.grammar.specs.kinds.Shift.{shiftRule}
+use Rattle.grammar.specs.Plan.{coded, weighed}
 use Rattle.grammar.proofs.kinds.shift.check.Statement.{statement}
 use Rattle.grammar.proofs.kinds.shift.check.Tie as tie
 
 pub check-spec : {M : Type 1} → statement M
-unfolding shiftRow row coded
+unfolding weighed shiftRule row coded
 check-spec =
     tie.close
     (tie.spec
