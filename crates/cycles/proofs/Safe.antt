@@ -81,7 +81,7 @@ module _ {t p plan : List ℕ} where
     pass-end {count} l u = let e : n ≡ count = omega arith in rw e at s
 
   -- a node whose steps lead to safe nodes alone is safe
-  module _ {marks : List ℕ} {n : ℕ} (s : SafeMarks t p plan marks) {b : Bool} (asked : b ≡ every (isMarked marks) (stepsOf false t p (sizeIn plan) n)) (yes : b ≡ true) where
+  module _ {marks : List ℕ} (n : ℕ) (s : SafeMarks t p plan marks) {b : Bool} (asked : b ≡ every (isMarked marks) (stepsOf false t p (sizeIn plan) n)) (yes : b ≡ true) where
     stepped : (m : ℕ) → Step false t p (sizeIn plan) n m → Safe t p plan m
     stepped m i = s .safe m (eqb-false (getD marks m 0) 0 (not-true (eqb (getD marks m 0) 0) (every-mem (isMarked marks) m (stepsOf false t p (sizeIn plan) n) (sym asked ∙ yes) i)))
 
@@ -97,20 +97,21 @@ module _ {t p plan : List ℕ} where
     pub pass-safe : {left : ℕ} → SafePass t p plan marks n left → SafePass t p plan (set marks n 1) (n + 1) left
     pass-safe q = record { marked = now-marked; all = λ e. below-more _ n (q .all e) here }
 
-  -- nodes that are settled, rising
-  pub record Settled (marks : List ℕ) (n : ℕ) : Type 0 where
-    pub le : n ≤ nodes t
-    pub marked : SafeMarks t p plan marks
-    pub all : (k : ℕ) → k < n → Safe t p plan k
-
-  pub settled-none : {marks : List ℕ} → SafeMarks t p plan marks → Settled marks 0
-  settled-none s = record { le = omega arith; marked = s; all = λ k l. absurd (omega arith) }
-
-  pub settled-more : {marks next : List ℕ} {n : ℕ} → Settled marks n → n < nodes t → SafeMarks t p plan next → (getD next n 0 ≡ 0 → ⊥) → Settled next (n + 1)
-  settled-more {marks} {next} {n} s l m f = record { le = omega arith; marked = m; all = below-more _ n (s .all) (m .safe n f) }
-
-  pub settled-all : {marks : List ℕ} {n : ℕ} → Ready t p plan → Settled marks n → nodes t ≤ n → (k : ℕ) → Unguarded t p (sizeIn plan) k → ⊥
-  settled-all r s l k q = s .all k (omega (arith, cycle-in false (r .checked) k q)) .never k q q
-
   pub all-safe : {marks : List ℕ} {left : ℕ} → Ready t p plan → SafePass t p plan marks (nodes t) left → left ≤ 0 → (n : ℕ) → Unguarded t p (sizeIn plan) n → ⊥
   all-safe r s l n q = s .all (omega arith) n (cycle-in false (r .checked) n q) .never n q q
+
+-- ---- nodes that are settled, rising
+pub record Settled (t p plan marks : List ℕ) (n : ℕ) : Type 0 where
+  pub le : n ≤ nodes t
+  pub marked : SafeMarks t p plan marks
+  pub all : (k : ℕ) → k < n → Safe t p plan k
+
+module _ {t p plan : List ℕ} where
+  pub settled-none : {marks : List ℕ} → SafeMarks t p plan marks → Settled t p plan marks 0
+  settled-none s = record { le = omega arith; marked = s; all = λ k l. absurd (omega arith) }
+
+  pub settled-more : {marks next : List ℕ} {n : ℕ} → Settled t p plan marks n → n < nodes t → SafeMarks t p plan next → (getD next n 0 ≡ 0 → ⊥) → Settled t p plan next (n + 1)
+  settled-more {marks} {next} {n} s l m f = record { le = omega arith; marked = m; all = below-more _ n (s .all) (m .safe n f) }
+
+  pub settled-all : {marks : List ℕ} {n : ℕ} → Ready t p plan → Settled t p plan marks n → nodes t ≤ n → (k : ℕ) → Unguarded t p (sizeIn plan) k → ⊥
+  settled-all r s l k q = s .all k (omega (arith, cycle-in false (r .checked) k q)) .never k q q

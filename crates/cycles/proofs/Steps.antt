@@ -2,13 +2,13 @@
 --   step-to      to a node of the table
 --   step-down    to a lower node, but for that of an again
 --   every-mem    a member of a list that a test passes everywhere
---   one-few, two-few, run-few   the nodes named are below 256
+--   one-in, two-in, run-in   the nodes named are in the table; one-few, two-few, run-few   and below 256
 --   marks-named, asks-named, asks-not   marks and tests of the nodes named, one after the other
 -- Assumes nothing.
 use mathlib.Core.Path.{_≡_, refl, sym, subst, ap, _∙_}
 use mathlib.Core.Bool.{Bool, true, false, _&&_}
 use mathlib.Core.Logic.{⊎-elim}
-use mathlib.Core.List.{List, [], _∷_, _++_, List·Memᴰ, List·Memᴰ·cases-cons, List·Memᴰ·not-nil}
+use mathlib.Core.List.{List, [], _∷_, _++_, List·Memᴰ, List·Memᴰ·head, List·Memᴰ·tail, List·Memᴰ·cases-cons, List·Memᴰ·not-nil}
 use Prim.Native.Nat.{ℕ, zero, suc, _+_, _*_, _≤_, _<_}
 use native.Mathlib.Nat.{not-suc-le-zero, le-of-suc-le-suc}
 use native.Mathlib.Omega.{arith}
@@ -62,7 +62,7 @@ module _ {t p : List ℕ} {z : ℕ → Size} (c : Checked t p z) (n m : ℕ) whe
 -- ---- lists of nodes
 all-under : (count : ℕ) (xs : List ℕ) → ((m : ℕ) → List·Memᴰ m xs → m < count) → Under count xs
 all-under count [] f = tt
-all-under count (x ∷ xs) f = (f x (List·Memᴰ.head refl), all-under count xs (λ m i. f m (List·Memᴰ.tail i)))
+all-under count (x ∷ xs) f = (f x (List·Memᴰ·head refl), all-under count xs (λ m i. f m (List·Memᴰ·tail i)))
 
 under-left : (count : ℕ) (xs ys : List ℕ) → Under count (xs ++ ys) → Under count xs
 under-left count [] ys u = tt
@@ -104,26 +104,35 @@ second r = pick (r .second) (r .b ∷ []) []
 abbrev pub others : List ℕ → Named → List ℕ
 others p r = take (r .count) (drop (r .at) p)
 
-module _ {t p plan : List ℕ} (ready : Ready t p plan) {n : ℕ} {guarded : Bool} {r : Named} (names : Names p (stepsOf guarded t p (sizeIn plan) n) r) where
-  all-few : Under 256 (first r ++ (second r ++ others p r))
+module _ {t p plan : List ℕ} (ready : Ready t p plan) (n : ℕ) (guarded : Bool) {r : Named} (names : Names p (stepsOf guarded t p (sizeIn plan) n) r) where
+  all-in : Under (nodes t) (first r ++ (second r ++ others p r))
   unfolding named
-  all-few = all-under 256 _ (λ m i. omega (arith, ready .checked .few, step-to (ready .checked) n m guarded (subst (List·Memᴰ m) (names .is) i)))
+  all-in = all-under (nodes t) _ (λ m i. step-to (ready .checked) n m guarded (subst (List·Memᴰ m) (names .is) i))
+
+  pub one-in : r .first ≡ true → r .a < nodes t
+  one-in e = under-one (nodes t) (r .first) (r .a) (under-left (nodes t) (first r) _ all-in) e
+
+  pub two-in : r .second ≡ true → r .b < nodes t
+  two-in e = under-one (nodes t) (r .second) (r .b) (under-left (nodes t) (second r) _ (under-right (nodes t) (first r) _ all-in)) e
+
+  pub run-in : (i : ℕ) → i < r .count → getD p (r .at + i) 0 < nodes t
+  run-in i l =
+      let u = under-right (nodes t) (second r) _ (under-right (nodes t) (first r) _ all-in) in
+      rw (← run-at p (r .at) (r .count) (names .inside) i l) (under-at (nodes t) (others p r) i (omega (arith, run-long p (r .at) (r .count) (names .inside))) u)
 
   pub one-few : r .first ≡ true → r .a < 256
-  one-few e = under-one 256 (r .first) (r .a) (under-left 256 (first r) _ all-few) e
+  one-few e = omega (arith, one-in e, ready .checked .few)
 
   pub two-few : r .second ≡ true → r .b < 256
-  two-few e = under-one 256 (r .second) (r .b) (under-left 256 (second r) _ (under-right 256 (first r) _ all-few)) e
+  two-few e = omega (arith, two-in e, ready .checked .few)
 
   pub run-few : (i : ℕ) → i < r .count → getD p (r .at + i) 0 < 256
-  run-few i l =
-      let u = under-right 256 (second r) _ (under-right 256 (first r) _ all-few) in
-      rw (← run-at p (r .at) (r .count) (names .inside) i l) (under-at 256 (others p r) i (omega (arith, run-long p (r .at) (r .count) (names .inside))) u)
+  run-few i l = omega (arith, run-in i l, ready .checked .few)
 
-  pub marks-named : {old one two last : List ℕ} → one ≡ marked old (first r) → two ≡ marked one (second r) → last ≡ marked two (others p r)
+  pub marks-named : (old : List ℕ) {one two last : List ℕ} → one ≡ marked old (first r) → two ≡ marked one (second r) → last ≡ marked two (others p r)
       → last ≡ marked old (stepsOf guarded t p (sizeIn plan) n)
   unfolding named
-  marks-named {old} {one} {two} {last} a b c =
+  marks-named old {one} {two} {last} a b c =
       c ∙ (rw (b, a) (sym (marked-both (marked old (first r)) (second r) (others p r)) ∙ sym (marked-both old (first r) (second r ++ others p r))) ∙ ap (marked old) (names .is))
 
   module _ (test : ℕ → Bool) {x : Bool} (e : x ≡ every test (first r)) where

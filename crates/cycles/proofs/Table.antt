@@ -107,7 +107,7 @@ passed-none = record { le = zero-le; none = below-none _ }
 abbrev AskedBy : Bool → ℕ → Bool → Type 0
 AskedBy guarded kind b = (x y : ℕ) (p : List ℕ) (z : ℕ → Size) → b ≡ pick guarded (kindIn kind .rule x y p z .skips) (eqb kind 9)
 
-module _ {guarded : Bool} {t p plan : List ℕ} (r : Ready t p plan) {n : ℕ} {b : Bool} (e : AskedBy guarded (kindOf t n) b) where
+module _ (guarded : Bool) {t p plan : List ℕ} (r : Ready t p plan) (n : ℕ) {b : Bool} (e : AskedBy guarded (kindOf t n) b) where
   is-asked : b ≡ asked guarded t p (sizeIn plan) n
   unfolding ruleAt
   is-asked = e (aOf t n) (bOf t n) p (before (sizeIn plan) n)

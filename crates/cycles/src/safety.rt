@@ -111,8 +111,12 @@ fn settle(
         settle(table, pool, plan, s.b, left - 1, open, safe);
     }
     let at = s.at;
-    for i in 0..s.count {
-        settle(table, pool, plan, pool[at + i] as usize, left - 1, open, safe);
+    let count = s.count;
+    let mut i: usize = 0;
+    while i < count {
+        let next = pool[at + i] as usize;
+        settle(table, pool, plan, next, left - 1, open, safe);
+        i += 1;
     }
     if steps_safe(table, pool, plan, n, safe) {
         safe[n] = 1;

@@ -3,6 +3,7 @@
 --   scan       of the nodes below n
 --   sizeAt     the size of a node among them
 --   sizes      of a whole table whose nodes pass
+--   rulesOf    the rules of its nodes
 -- Assumes nothing.
 use mathlib.Core.List.{List, [], _∷_, _++_}
 use Prim.Native.Nat.{ℕ, zero, suc}
@@ -10,7 +11,8 @@ use lib.ListN.{getD}
 use Rattle.numbers.specs.Size.{Size, finite}
 use Rattle.grammar.specs.Table.{nodes}
 use Rattle.grammar.specs.Checks.{Row, fault, sized}
-use Rattle.grammar.specs.Nodes.{rowAt}
+use Rattle.grammar.specs.Rule.{Rule}
+use Rattle.grammar.specs.Nodes.{ruleAt, rowAt}
 use Rattle.grammar.specs.declared.refusal.Refusal.{Refusal}
 
 pub data Scan : Type 0 where
@@ -39,3 +41,7 @@ sizesIn (faulty r k) = []
 
 unfoldable pub sizes : List ℕ → List ℕ → List Size
 sizes t p = sizesIn (scan t p (nodes t))
+
+-- the rules of a table's nodes, by those sizes
+abbrev pub rulesOf : List ℕ → List ℕ → ℕ → Rule
+rulesOf t p = ruleAt t p (sizeAt (sizes t p))

@@ -26,16 +26,16 @@ const KINDS: usize = 10;
 
 // "One constant table says which of a and b each kind uses": yes or no for a and for b, a row a kind.
 const USED: [[bool; 2]; 10] = [
-    [true, false],  // below: count
+    [true, false], // below: count
     [false, false], // nats: none
-    [true, true],   // pool: place, count
-    [true, true],   // shift: node, k
-    [true, true],   // or: nodes
-    [true, true],   // cons: nodes
-    [true, true],   // dep: node, place
-    [true, true],   // except: node, number
-    [true, false],  // fix: body
-    [true, false],  // again: fix
+    [true, true], // pool: place, count
+    [true, true], // shift: node, k
+    [true, true], // or: nodes
+    [true, true], // cons: nodes
+    [true, true], // dep: node, place
+    [true, true], // except: node, number
+    [true, false], // fix: body
+    [true, false], // again: fix
 ];
 
 // "a word not used is zero". Of a kind that is not known nothing is spare, so that its row refuses it (2).

@@ -1,7 +1,6 @@
--- `cycles::unguarded` asks the agains alone, and only where passes leave it open: the lowest node of a cycle is one.
+-- `cycles::unguarded` asks the agains alone, and only where marks leave it open: the lowest node of a cycle is one.
 -- Assumes nothing.
 use borrow.Author.Needs.{needs}
-use mathlib.Core.Bool.{false}
 use Rattle.graph.proofs.Lowest.{nowhere}
 use Rattle.cycles.proofs.Table.{lowest-again}
 use Rattle.cycles.proofs.unguarded.Statement.{statement}
@@ -14,4 +13,4 @@ unguarded-spec =
     (λ c κs. search needs)
     (λ c. nowhere (c .before .all-safe .ensures (c .if1 .taken)))
     (λ c κs. search needs)
-    (λ c. lowest-again false (c .before .before .before .before .before .before .pre) (c .lowest-of-kind .ensures)))
+    (λ c. lowest-again (c .before .before .before .before .before .before .pre) (c .lowest-asked .ensures)))

@@ -1,4 +1,4 @@
--- `cycles::safety::all_safe` makes passes until one leaves no node, or no fewer than the one before.
+-- `cycles::safety::all_safe` makes passes while they go well, and settles what is left.
 -- Assumes nothing.
 use borrow.Author.Needs.{needs}
 use mathlib.Core.Bool.{false≢true}
@@ -24,7 +24,8 @@ all-safe-spec =
     μ-loop
     (λ c. pass-start (blank 256))
     (λ c κs. search needs)
-    (λ c. λ e. absurd (false≢true e))
+    (λ c κs. (c .before .before .before .before .before .before .before .before .before .pre, c .before .before .safe-pass .ensures .marked))
+    (λ c. c .all-settled .ensures)
     (λ c. omega arith)
     (λ c. search needs)
     (λ c. λ e. search all-safe))
