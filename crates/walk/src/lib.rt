@@ -1,6 +1,1 @@
-// The walks over a plan: from a number to cells, and from cells to a number.
-pub mod lay;
-pub mod parts;
-pub mod sure;
-pub mod take;
-pub mod tally;
+// The walks over a plan.
