@@ -9,3 +9,5 @@ pub mod Lays
 pub mod Visit
 pub mod Nodes
 pub mod Deps
+pub mod Items
+pub mod Calls

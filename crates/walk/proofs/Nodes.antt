@@ -1,14 +1,14 @@
 -- A node of a plan, where its kind word is known: its rule, and what its checks show. A dep's are in `Deps`.
 --   ..-rule       the rule of a node of each kind, by the plan's sizes
 --   in-plan       a node's words are in the plan
---   known         there is no other kind
+--   Unlike, known there is no other kind
 --   raised-..     what stands under a shift
 -- Assumes nothing.
 use mathlib.Core.Path.{_≡_, refl, sym, ap, subst, _∙_}
 use mathlib.Core.Bool.{Bool, true, false, _&&_, _||_, false≢true}
 use mathlib.Core.Logic.{_⊎_, inl, inr, ⊎-elim}
 use mathlib.Core.List.{List}
-use Prim.Native.Nat.{ℕ, _+_, _*_, _^_, _≤_, _<_}
+use Prim.Native.Nat.{ℕ, zero, suc, _+_, _*_, _^_, _≤_, _<_}
 use native.Mathlib.Omega.{arith}
 use lib.Dec.{eqb, ltb, leb}
 use lib.ListN.{length, getD, take, drop, List·getD-eq-default}
@@ -36,12 +36,14 @@ use Rattle.walk.specs.Plan.{Walkable, Reading, Raised}
 pub some-word : (w : ℕ) → Some (sizeOf w) → 0 < w
 some-word w = by-size (λ s. Some s → 0 < w) w (λ l h. h) (λ l h. omega arith)
 
--- a kind word that is none of 01's, in two steps
-past-four : {k : ℕ} → (k ≡ 0 → ⊥) → (k ≡ 1 → ⊥) → (k ≡ 2 → ⊥) → (k ≡ 3 → ⊥) → (k ≡ 4 → ⊥) → 5 ≤ k
-past-four f0 f1 f2 f3 f4 = omega arith
+-- a word that is none of those below j, as a match's last arm has it
+abbrev pub Unlike : ℕ → ℕ → Type 0
+Unlike zero k = Unit {0}
+Unlike (suc j) k = Unlike j k × (k ≡ j → ⊥)
 
-past-nine : {k : ℕ} → 5 ≤ k → (k ≡ 5 → ⊥) → (k ≡ 6 → ⊥) → (k ≡ 7 → ⊥) → (k ≡ 8 → ⊥) → (k ≡ 9 → ⊥) → 10 ≤ k
-past-nine l f5 f6 f7 f8 f9 = omega arith
+unlike : (j k : ℕ) → Unlike j k → j ≤ k
+unlike zero k h = omega arith
+unlike (suc j) k h = let l = unlike j k (h .0) in let f = h .1 in omega arith
 
 -- ---- the rule, by the kind word
 pub rule-by : (plan p : List ℕ) (i : ℕ) {k : ℕ} → kindWord plan i ≡ k → ruleIn plan p i ≡ kindIn k .rule (aWord plan i) (bWord plan i) p (before (sizeIn plan) i)
@@ -87,10 +89,9 @@ module _ {plan p : List ℕ} {i : ℕ} (r : Reading plan p i) where
   reads-one e = subst (λ (t : Rule). Under (r .walks .count) (t .steps true)) e (r .walks .good .lawful i (r .node) .inside)
 
   -- ---- no check of an unknown kind is passed
-  pub known : (kindWord plan i ≡ 0 → ⊥) → (kindWord plan i ≡ 1 → ⊥) → (kindWord plan i ≡ 2 → ⊥) → (kindWord plan i ≡ 3 → ⊥) → (kindWord plan i ≡ 4 → ⊥)
-      → (kindWord plan i ≡ 5 → ⊥) → (kindWord plan i ≡ 6 → ⊥) → (kindWord plan i ≡ 7 → ⊥) → (kindWord plan i ≡ 8 → ⊥) → (kindWord plan i ≡ 9 → ⊥) → ⊥
-  known f0 f1 f2 f3 f4 f5 f6 f7 f8 f9 =
-      let e : kindIn (kindWord plan i) ≡ unknown = List·getD-eq-default kinds unknown {n = kindWord plan i} (past-nine (past-four f0 f1 f2 f3 f4) f5 f6 f7 f8 f9) in
+  pub known : Unlike 10 (kindWord plan i) → ⊥
+  known f =
+      let e : kindIn (kindWord plan i) ≡ unknown = List·getD-eq-default kinds unknown {n = kindWord plan i} (unlike 10 (kindWord plan i) f) in
       let h = subst (λ (k : Kind). Holds (k .checks (nodeIn plan p (r .walks .count) i) (before (sizeIn plan) i))) e (r .walks .holds i (r .node)) in
       false≢true (h .0)
 
@@ -180,8 +181,8 @@ module _ {plan p : List ℕ} {i : ℕ} (r : Reading plan p i) where
   again-reads e = reads-at (aWord plan i) (reads-one (again-rule plan p i e) .0)
 
 -- ---- nothing but a below, a nats and a shift has anything added
-pub raised-none : {plan : List ℕ} {i up : ℕ} → Raised plan i up → (kindWord plan i ≡ 0 → ⊥) → (kindWord plan i ≡ 1 → ⊥) → (kindWord plan i ≡ 3 → ⊥) → up ≡ 0
-raised-none r f g h = ⊎-elim (λ e. e) (λ s. absurd (⊎-elim f (λ t. ⊎-elim g h t) s)) (r .is)
+pub raised-none : {plan : List ℕ} {i up k : ℕ} → Raised plan i up → kindWord plan i ≡ k → (k ≡ 0 → ⊥) × (k ≡ 1 → ⊥) × (k ≡ 3 → ⊥) → up ≡ 0
+raised-none r e h = ⊎-elim (λ q. q) (λ s. absurd (⊎-elim (λ q. h .0 (sym e ∙ q)) (λ t. ⊎-elim (λ q. h .1 (sym e ∙ q)) (λ q. h .2 (sym e ∙ q)) t) s)) (r .is)
 
 pub raised-zero : (plan : List ℕ) (i : ℕ) → Raised plan i 0
 raised-zero plan i = record { is = inl refl }

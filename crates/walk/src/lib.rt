@@ -1,1 +1,3 @@
-// The walks over a plan.
+// The walks over a plan: from a number to cells, and from cells to a number.
+pub mod parts;
+pub mod tally;
