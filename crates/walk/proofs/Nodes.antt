@@ -181,8 +181,13 @@ module _ {plan p : List ℕ} {i : ℕ} (r : Reading plan p i) where
   again-reads e = reads-at (aWord plan i) (reads-one (again-rule plan p i e) .0)
 
 -- ---- nothing but a below, a nats and a shift has anything added
-pub raised-none : {plan : List ℕ} {i up k : ℕ} → Raised plan i up → kindWord plan i ≡ k → (k ≡ 0 → ⊥) × (k ≡ 1 → ⊥) × (k ≡ 3 → ⊥) → up ≡ 0
-raised-none r e h = ⊎-elim (λ q. q) (λ s. absurd (⊎-elim (λ q. h .0 (sym e ∙ q)) (λ t. ⊎-elim (λ q. h .1 (sym e ∙ q)) (λ q. h .2 (sym e ∙ q)) t) s)) (r .is)
+abbrev bare : ℕ → Bool
+bare k = (eqb k 0 || eqb k 1) || eqb k 3
+
+pub raised-none : {plan : List ℕ} {i up k : ℕ} → Raised plan i up → kindWord plan i ≡ k → bare k ≡ false → up ≡ 0
+raised-none {plan} {i} {k = k} r e h =
+    let no : (j : ℕ) → bare j ≡ true → kindWord plan i ≡ j → ⊥ = λ j b q. false≢true (sym h ∙ (ap bare (sym e ∙ q) ∙ b)) in
+    ⊎-elim (λ q. q) (λ s. absurd (⊎-elim (no 0 refl) (λ t. ⊎-elim (no 1 refl) (no 3 refl) t) s)) (r .is)
 
 pub raised-zero : (plan : List ℕ) (i : ℕ) → Raised plan i 0
 raised-zero plan i = record { is = inl refl }

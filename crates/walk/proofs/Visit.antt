@@ -39,6 +39,13 @@ module _ (g : ℕ → Rule) (i n up : ℕ) {d : ℕ} where
     unfolding shown
     walk-pass e q = walk-by e ∙ rw (q, append-nil)
 
+    -- where nothing is added
+    pub walk-word : {c : ℕ} → g i .items n ≡ own c ∷ [] → up ≡ 0 → walk g d up i n ≡ cell c ∷ []
+    walk-word {c} e q = walk-cell e (omega arith)
+
+    pub walk-same : {a m : ℕ} → g i .items n ≡ part a m 0 ∷ [] → up ≡ 0 → walk g d up i n ≡ walk g (d - 1) 0 a m
+    walk-same e q = walk-pass e (omega arith)
+
     pub walk-tag : {c a m : ℕ} → g i .items n ≡ own c ∷ part a m 0 ∷ [] → up ≡ 0 → walk g d up i n ≡ cell c ∷ walk g (d - 1) 0 a m
     unfolding shown
     walk-tag {c} e q = let z : c + 0 ≡ c = omega arith in walk-by e ∙ rw (q, z, append-nil)
