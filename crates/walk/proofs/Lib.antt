@@ -11,3 +11,5 @@ pub mod Nodes
 pub mod Deps
 pub mod Items
 pub mod Calls
+pub mod Cells
+pub mod Takes
