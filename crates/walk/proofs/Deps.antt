@@ -1,7 +1,7 @@
 -- A dep of a plan: its seconds, as `grammar::kinds::dep` needs them, and its rule by the plan's sizes.
 --   dep-in      what is known of its first part and of its seconds
 --   dep-rule    its rule
---   second-of   the second that number x of the first part chooses
+--   second-of, second-place, chosen-reads, dep-least   of the second that number x of the first part chooses
 -- Assumes nothing.
 use mathlib.Core.Path.{_≡_, refl, sym, ap, _∙_}
 use mathlib.Core.Bool.{true, false, not, _||_, false≢true}
@@ -118,8 +118,8 @@ module _ {plan p : List ℕ} {i : ℕ} (r : Reading plan p i) (e : kindWord plan
     pub second-place : (b + x < length p) × (length p ≤ 4096)
     second-place = (omega (arith, in-pool), r .walks .slight)
 
-    pub second-reads : Reading plan p (getD p (b + x) 0)
-    second-reads = record { walks = r .walks; node = second-in x l }
+    pub chosen-reads : Reading plan p (getD p (b + x) 0)
+    chosen-reads = record { walks = r .walks; node = second-in x l }
 
     pub dep-least : (y : ℕ) → (x ≤ Dep.join (secondsOf z cs) x y) × (y ≤ Dep.join (secondsOf z cs) x y)
     dep-least y =

@@ -13,3 +13,5 @@ pub mod Items
 pub mod Calls
 pub mod Cells
 pub mod Takes
+pub mod Trees
+pub mod Leaves
