@@ -6,3 +6,4 @@ pub mod Filled
 pub mod Laid
 pub mod Took
 pub mod Plan
+pub mod Sure

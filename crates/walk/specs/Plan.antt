@@ -2,7 +2,10 @@
 --   Walkable   the nodes of a plan have passed their checks, and keep the law
 --   Reading    a node of it
 --   Visits     and a number below its size
+--   Raised     what the shifts above a node may add to its first cell
 -- Assumes nothing.
+use mathlib.Core.Path.{_≡_}
+use mathlib.Core.Logic.{_⊎_}
 use mathlib.Core.List.{List}
 use Prim.Native.Nat.{ℕ, _*_, _≤_, _<_}
 use lib.ListN.{length}
@@ -30,3 +33,7 @@ pub record Visits (plan p : List ℕ) (i n : ℕ) : Type 0 where
   pub walks : Walkable plan p
   pub node : i < walks .count
   pub below : Below n (sizeIn plan i)
+
+-- nothing, or the node is "of kind 0, 1 or 3": no other stands under a shift
+pub record Raised (plan : List ℕ) (i up : ℕ) : Type 0 where
+  pub is : (up ≡ 0) ⊎ ((kindWord plan i ≡ 0) ⊎ ((kindWord plan i ≡ 1) ⊎ (kindWord plan i ≡ 3)))

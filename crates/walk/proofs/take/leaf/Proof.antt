@@ -1,0 +1,22 @@
+-- `walk::take::leaf` reads a cell of its own, any number.
+-- Assumes nothing.
+use mathlib.Core.Path.{ap, _∙_}
+use native.Mathlib.Omega.{arith}
+use borrow.Author.Needs.{needs}
+use Rattle.walk.specs.Took.{wordOf}
+use Rattle.walk.proofs.Cells.{taken-number, cell-ends, cell-less, cell-found}
+use Rattle.walk.proofs.take.leaf.Statement.{statement}
+use Rattle.walk.proofs.take.leaf.Tie as tie
+
+pub leaf-spec : {M : Type 1} → statement M
+leaf-spec =
+    tie.close
+    (tie.spec
+    (λ c. cell-ends _ _ _ _ (c .before .before .before .pre .0) (c .if1 .taken))
+    (λ c. search needs)
+    (λ c. search needs)
+    (λ c. cell-less _ _ _ _ (c .before .before .if1 .left) (c .if2 .taken))
+    (λ c. search needs)
+    (λ c κs. search needs)
+    (λ c κs. search needs)
+    (λ c. cell-found _ _ _ _ (c .before .before .before .before .if1 .left) (c .before .before .if2 .left) (taken-number _ (omega arith) (omega (arith, c .before .before .before .before .if1 .left)) (c .word .ensures ∙ ap wordOf (c .before .cap .ensures)))))
