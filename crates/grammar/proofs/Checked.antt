@@ -112,9 +112,9 @@ module _ (t p : List ℕ) where
       rw f
       (⊎-elim
       (λ same. let (h, g) = row-at (sizeAt ys) n r in
-          rw same (passed-same (sizeAt ys) _ n old (at-end ys s n (sym long)) h g (row-fit (sizeAt ys) n r (λ i m. ih i m .fit))))
+      rw same (passed-same (sizeAt ys) _ n old (at-end ys s n (sym long)) h g (row-fit (sizeAt ys) n r (λ i m. ih i m .fit))))
       (λ other. let w = ih k (omega arith) in
-          passed-same (sizeAt ys) _ k (λ i m. old i (omega arith)) (sym (old k (omega arith))) (w .holds) (w .size) (w .fit))
+      passed-same (sizeAt ys) _ k (λ i m. old i (omega arith)) (sym (old k (omega arith))) (w .holds) (w .size) (w .fit))
       (same? k n))
 
   -- ---- a whole table

@@ -58,5 +58,5 @@ cons-law = record {
 
 pub cons-lower : Lower cons
 unfolding consRule
-cons-lower v z h = 
+cons-lower v z h =
     (ltb-true (v .a) (v .own) (and-left _ (ltb (v .b) (v .own)) (h .0)), (ltb-true (v .b) (v .own) (and-right (ltb (v .a) (v .own)) _ (h .0)), tt))

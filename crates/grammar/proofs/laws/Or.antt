@@ -82,5 +82,5 @@ or-law = record {
 
 pub or-lower : Lower or
 unfolding orRule
-or-lower v z h = 
+or-lower v z h =
     (ltb-true (v .a) (v .own) (and-left _ (ltb (v .b) (v .own)) (h .0)), (ltb-true (v .b) (v .own) (and-right (ltb (v .a) (v .own)) _ (h .0)), tt))
