@@ -15,7 +15,7 @@ use lib.ListN.{length, getD, List·getD-eq-default}
 use Rattle.numbers.specs.Size.{Size}
 use Rattle.grammar.specs.Table.{kindOf, aOf, bOf}
 use Rattle.grammar.specs.Checks.{Check, asks, row}
-use Rattle.grammar.specs.Kind.{Node, Kind, before, spare}
+use Rattle.grammar.specs.Kind.{Node, Kind, spare}
 use Rattle.grammar.specs.Nodes.{kinds, usedWords, unknown, kindIn, nodeAt, ruleAt, rowAt}
 use Rattle.grammar.specs.Plan.{coded, weighed}
 use Rattle.grammar.specs.declared.refusal.Refusal.{Refusal}
