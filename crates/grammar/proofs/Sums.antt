@@ -41,7 +41,8 @@ measured-row endless = refl
 
 -- the row of or and of cons, whose parts are lower: f is their sum or their product
 pub pair-row : (f : Size → Size → Size) (z : ℕ → Size) (n a b : ℕ) {m : Measured} {w : Weighed} → a < n → b < n
-    → m ≡ measured (f (z a) (z b)) → w ≡ weighedOf m → let s = f (before z n a) (before z n b) in w ≡ coded (row (asks (ltb a n && ltb b n) Reference ∷ asks (fits s) TooLarge ∷ []) s)
+    → m ≡ measured (f (z a) (z b)) → w ≡ weighedOf m
+    → let s = f (before z n a) (before z n b) in w ≡ coded (row (asks (ltb a n && ltb b n) Reference ∷ asks (fits s) TooLarge ∷ []) s)
 unfolding row
 pair-row f z n a b l k m w = rw (w, m, lt-ltb a n l, lt-ltb b n k) (measured-row (f (z a) (z b)))
 

@@ -1,4 +1,6 @@
 -- The law of pool.
+--   pool-law      its rule is lawful, and its size fits
+--   pool-lower    it steps nowhere
 -- Assumes nothing.
 use mathlib.Core.Path.{_≡_}
 use mathlib.Core.Bool.{true, _&&_}

@@ -28,4 +28,5 @@ check-spec =
     (λ c κs. search needs)
     (λ c κs. search needs)
     (λ c. λ t p. let d = c .before .before .before .before in
-    pair-row times (sizeIn (d .before .before .before .args .plan .now)) _ _ _ (d .before .if1 .left) (d .if2 .left) (c .before .product .ensures) (c .of-measured .ensures)))
+    pair-row times (sizeIn (d .before .before .before .args .plan .now)) _ _ _ (d .before .if1 .left) (d .if2 .left)
+    (c .before .product .ensures) (c .of-measured .ensures)))
