@@ -1,4 +1,5 @@
 -- A node's kind, by its word.
+--   NoneOf, or-yes, or-no     what a `match` on the kind word, and an `or` of two tests, leave
 --   by-word, not-known        what the kind answers of a node: of kind i, and of a kind that is not known
 --   used-at                   the rule of the constant table of used words
 --   spare-none, spare-first, spare-second   so the code's test of spare words is 01's
