@@ -5,11 +5,11 @@
 -- Assumes nothing.
 use mathlib.Core.Path.{_≡_, refl, sym, _∙_}
 use mathlib.Core.List.{List, [], _∷_}
-use Prim.Native.Nat.{ℕ, zero, suc, _+_, _*_, _^_, _≤_, _<_}
+use Prim.Native.Nat.{ℕ, zero, suc, _+_, _^_, _≤_, _<_}
 use native.Mathlib.Nat.{add-zero}
 use native.Mathlib.Numerals.{add-one}
 use native.Mathlib.Omega.{arith}
-use lib.ListN.{length, getD, take, drop, drop-of-length-le}
+use lib.ListN.{length, take, drop, drop-of-length-le}
 use lib.Seq.{drop-cons, take-take}
 use Rattle.numbers.specs.Size.{Size}
 use Rattle.numbers.specs.Dep.{endlesses, total}
@@ -69,6 +69,7 @@ module _ {plan p : List ℕ} {a b x : ℕ} (d : DepIn plan p a b) (chosen : x < 
     unfolding secondsOf Dep.join
     finite-join y = rw (← not-endless d h, before-is)
 
-  pub endless-join : 2 ^ 63 ≤ headSize plan p b → (y : ℕ) → Dep.join (endlesses (firsts plan a)) x y ≡ Dep.join (secondsOf (sizeIn plan) (take (firsts plan a) (drop b p))) x y
+  pub endless-join : 2 ^ 63 ≤ headSize plan p b → (y : ℕ)
+      → Dep.join (endlesses (firsts plan a)) x y ≡ Dep.join (secondsOf (sizeIn plan) (take (firsts plan a) (drop b p))) x y
   unfolding secondsOf
   endless-join h y = rw (d .endless h, run-long p b (firsts plan a) (d .inside))

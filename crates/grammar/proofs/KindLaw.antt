@@ -25,8 +25,10 @@ pub record Ground (v : Node) (z : ℕ → Size) : Type 0 where
   pub fixes : (i : ℕ) → i < v .nodes → v .kind i ≡ 8 → z i ≡ endless
 
 pub record KindLaw (k : Kind) : Type 0 where
-  pub lawful : (v : Node) (z : ℕ → Size) → Ground v z → Holds (k .checks v (before z (v .own))) → Lawful z (v .nodes) (k .rule (v .a) (v .b) (v .pool) (before z (v .own)))
-  pub fit : (v : Node) (z : ℕ → Size) → ((i : ℕ) → i < v .own → Fit (z i)) → Holds (k .checks v (before z (v .own))) → Fit (k .rule (v .a) (v .b) (v .pool) (before z (v .own)) .size)
+  pub lawful : (v : Node) (z : ℕ → Size) → Ground v z → Holds (k .checks v (before z (v .own)))
+      → Lawful z (v .nodes) (k .rule (v .a) (v .b) (v .pool) (before z (v .own)))
+  pub fit : (v : Node) (z : ℕ → Size) → ((i : ℕ) → i < v .own → Fit (z i)) → Holds (k .checks v (before z (v .own)))
+      → Fit (k .rule (v .a) (v .b) (v .pool) (before z (v .own)) .size)
 
 abbrev pub Lower : Kind → Type 0
 Lower k = (v : Node) (z : ℕ → Size) → Holds (k .checks v (before z (v .own))) → Under (v .own) (k .rule (v .a) (v .b) (v .pool) (before z (v .own)) .steps true)

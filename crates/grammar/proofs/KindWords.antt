@@ -1,4 +1,5 @@
 -- A node's kind, by its word.
+--   NoneOf, or-yes, or-no     what a `match` on the kind word, and an `or` of two tests, leave
 --   by-word, not-known        what the kind answers of a node: of kind i, and of a kind that is not known
 --   used-at                   the rule of the constant table of used words
 --   spare-none, spare-first, spare-second   so the code's test of spare words is 01's
@@ -15,7 +16,7 @@ use lib.ListN.{length, getD, List·getD-eq-default}
 use Rattle.numbers.specs.Size.{Size}
 use Rattle.grammar.specs.Table.{kindOf, aOf, bOf}
 use Rattle.grammar.specs.Checks.{Check, asks, row}
-use Rattle.grammar.specs.Kind.{Node, Kind, before, spare}
+use Rattle.grammar.specs.Kind.{Node, Kind, spare}
 use Rattle.grammar.specs.Nodes.{kinds, usedWords, unknown, kindIn, nodeAt, ruleAt, rowAt}
 use Rattle.grammar.specs.Plan.{coded, weighed}
 use Rattle.grammar.specs.declared.refusal.Refusal.{Refusal}
@@ -23,7 +24,7 @@ use Rattle.grammar.specs.declared.refusal.Refusal.the-variants.{Kind as 
 use Rattle.grammar.specs.declared.kinds.Weighed.{Weighed}
 use Rattle.grammar.specs.declared.kinds.Weighed.the-variants.{Fault}
 
-is-unknown : (w : ℕ) → 10 ≤ w → kindIn w ≡ unknown
+is-unknown : (w : ℕ) → length kinds ≤ w → kindIn w ≡ unknown
 is-unknown w l = List·getD-eq-default kinds unknown l
 
 -- a word that is none of the numbers below n, as a `match` leaves it
@@ -40,11 +41,12 @@ module _ (w : ℕ) (v : Node) (z : ℕ → Size) where
   pub by-word : (i : ℕ) {r : Weighed} → w ≡ i → r ≡ weighed (kindIn i) v z → r ≡ weighed (kindIn w) v z
   by-word i {r} e h = subst (λ (k : ℕ). r ≡ weighed (kindIn k) v z) (sym e) h
 
-  pub not-known : NoneOf w 10 → Fault NoKind ≡ weighed (kindIn w) v z
-  not-known h = subst (λ (k : Kind). Fault NoKind ≡ weighed k v z) (sym (is-unknown w (none-of w 10 h))) (unfold weighed row coded in refl)
+  pub not-known : NoneOf w (length kinds) → Fault NoKind ≡ weighed (kindIn w) v z
+  not-known h = subst (λ (k : Kind). Fault NoKind ≡ weighed k v z) (sym (is-unknown w (none-of w (length kinds) h))) (unfold weighed row coded in refl)
 
 -- ---- spare words
-used-in : (ks : List Kind) (w : ℕ) → w < length ks → getD (map (λ k. k .usesA ∷ k .usesB ∷ []) ks) w [] ≡ getD ks w unknown .usesA ∷ getD ks w unknown .usesB ∷ []
+used-in : (ks : List Kind) (w : ℕ) → w < length ks
+    → getD (map (λ k. k .usesA ∷ k .usesB ∷ []) ks) w [] ≡ getD ks w unknown .usesA ∷ getD ks w unknown .usesB ∷ []
 used-in [] w l = absurd (not-suc-le-zero l)
 used-in (k ∷ ks) zero l = refl
 used-in (k ∷ ks) (suc w) l = used-in ks w (le-of-suc-le-suc l)
@@ -57,10 +59,10 @@ pub or-no : {u q : Bool} (x : Bool) → u ≡ false → q ≡ x → q ≡ (u || 
 or-no x e f = rw (f, e)
 
 module _ (w a b : ℕ) where
-  pub spare-none : 10 ≤ w → true ≡ spare (kindIn w) a b
+  pub spare-none : length kinds ≤ w → true ≡ spare (kindIn w) a b
   spare-none l = subst (λ (k : Kind). true ≡ spare k a b) (sym (is-unknown w l)) refl
 
-  module _ {used : List (List Bool)} (u : used ≡ usedWords) (l : w < 10) where
+  module _ {used : List (List Bool)} (u : used ≡ usedWords) (l : w < length kinds) where
     used-at : getD used w [] ≡ kindIn w .usesA ∷ kindIn w .usesB ∷ []
     used-at = rw u (used-in kinds w l)
 

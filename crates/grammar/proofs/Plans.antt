@@ -3,7 +3,7 @@
 --   plan-sizes             the sizes that the plan's words stand for
 -- Assumes nothing.
 use mathlib.Core.Path.{_≡_, refl, sym, ap, _∙_}
-use mathlib.Core.Logic.{_⊎_, ⊎-elim}
+use mathlib.Core.Logic.{⊎-elim}
 use mathlib.Core.List.{List, [], _∷_, _++_}
 use Prim.Native.Nat.{ℕ, zero, suc, _+_, _*_, _^_, _≤_, _<_}
 use native.Mathlib.Nat.{not-suc-le-zero}
@@ -85,9 +85,14 @@ plan-none t plan e l = record {
   fit = λ k l. absurd (not-suc-le-zero l);
 }
 
-module _ {t : List ℕ} {zs : List Size} {n : ℕ} {plan : List ℕ} (h : Planned t zs n plan) (l : n < nodes t) (s : Size) (m : Fit s) {w : ℕ} (e : w ≡ codeOf s) where
+module _ {t : List ℕ} {zs : List Size} {n : ℕ} {plan : List ℕ} (h : Planned t zs n plan) (l : n < nodes t)
+    (s : Size) (m : Fit s) {w : ℕ} (e : w ≡ codeOf s) where
   next : List ℕ
   next = rowed plan n (kindOf t n) (aOf t n) (bOf t n) w
+
+  kept-at : (i : ℕ) → (i ≡ 4 * n → ⊥) → (i ≡ 4 * n + 1 → ⊥) → (i ≡ 4 * n + 2 → ⊥) → (i ≡ 4 * n + 3 → ⊥) → getD next i 0 ≡ getD plan i 0
+  unfolding next
+  kept-at = row-other plan n (kindOf t n) (aOf t n) (bOf t n) w
 
   inside : 4 * n + 3 < length plan
   inside = omega (arith, h .long)
@@ -96,15 +101,17 @@ module _ {t : List ℕ} {zs : List Size} {n : ℕ} {plan : List ℕ} (h : Planne
   unfolding next
   sizes-at k =
       ⊎-elim (λ same. rw same (row-size plan n (kindOf t n) (aOf t n) (bOf t n) w inside ∙ (e ∙ ap codeOf (sym (at-end zs s n (sym (h .many)))))))
-      (λ other. row-other plan n (kindOf t n) (aOf t n) (bOf t n) w (4 * k + 3) (λ q. omega arith) (λ q. omega arith) (λ q. omega arith) (λ q. other (omega arith))
+      (λ other. kept-at (4 * k + 3) (λ q. omega arith) (λ q. omega arith) (λ q. omega arith) (λ q. other (omega arith))
       ∙ (h .size k ∙ ap codeOf (sym (at-other zs s k (λ q. other (q ∙ h .many))))))
       (same? k n)
 
   fits-at : (k : ℕ) → k < n + 1 → Fit (sizeAt (zs ++ (s ∷ [])) k)
-  fits-at k q = ⊎-elim (λ same. rw (at-end zs s k (same ∙ sym (h .many))) m) (λ other. rw (at-other zs s k (λ x. other (x ∙ h .many))) (h .fit k (omega arith))) (same? k n)
+  fits-at k q =
+      ⊎-elim (λ same. rw (at-end zs s k (same ∙ sym (h .many))) m)
+      (λ other. rw (at-other zs s k (λ x. other (x ∙ h .many))) (h .fit k (omega arith))) (same? k n)
 
-  kept : (i : ℕ) → 4 * n + 3 < i → getD plan i 0 ≡ 0 → getD (rowed plan n (kindOf t n) (aOf t n) (bOf t n) w) i 0 ≡ 0
-  kept i q z = row-other plan n (kindOf t n) (aOf t n) (bOf t n) w i (λ x. omega arith) (λ x. omega arith) (λ x. omega arith) (λ x. omega arith) ∙ z
+  kept : (i : ℕ) → 4 * n + 3 < i → getD plan i 0 ≡ 0 → getD next i 0 ≡ 0
+  kept i q z = kept-at i (λ x. omega arith) (λ x. omega arith) (λ x. omega arith) (λ x. omega arith) ∙ z
 
   pub plan-more : Planned t (zs ++ (s ∷ [])) (n + 1) (rowed plan n (kindOf t n) (aOf t n) (bOf t n) w)
   unfolding next
@@ -112,12 +119,13 @@ module _ {t : List ℕ} {zs : List Size} {n : ℕ} {plan : List ℕ} (h : Planne
     long = omega (arith, row-long plan n (kindOf t n) (aOf t n) (bOf t n) w, h .long);
     many = rw length-append (ap (λ (x : ℕ). x + 1) (h .many));
     kind = λ k q. ⊎-elim (λ same. rw same (row-kind plan n (kindOf t n) (aOf t n) (bOf t n) w inside))
-        (λ other. row-other plan n (kindOf t n) (aOf t n) (bOf t n) w (4 * k) (λ x. other (omega arith)) (λ x. omega arith) (λ x. omega arith) (λ x. omega arith) ∙ h .kind k (omega arith)) (same? k n);
+        (λ other. kept-at (4 * k) (λ x. other (omega arith)) (λ x. omega arith) (λ x. omega arith) (λ x. omega arith) ∙ h .kind k (omega arith)) (same? k n);
     a = λ k q. ⊎-elim (λ same. rw same (row-a plan n (kindOf t n) (aOf t n) (bOf t n) w inside))
-        (λ other. row-other plan n (kindOf t n) (aOf t n) (bOf t n) w (4 * k + 1) (λ x. omega arith) (λ x. other (omega arith)) (λ x. omega arith) (λ x. omega arith) ∙ h .a k (omega arith)) (same? k n);
+        (λ other. kept-at (4 * k + 1) (λ x. omega arith) (λ x. other (omega arith)) (λ x. omega arith) (λ x. omega arith) ∙ h .a k (omega arith)) (same? k n);
     b = λ k q. ⊎-elim (λ same. rw same (row-b plan n (kindOf t n) (aOf t n) (bOf t n) w inside))
-        (λ other. row-other plan n (kindOf t n) (aOf t n) (bOf t n) w (4 * k + 2) (λ x. omega arith) (λ x. omega arith) (λ x. other (omega arith)) (λ x. omega arith) ∙ h .b k (omega arith)) (same? k n);
-    blank = λ k q. let (x, y, z) = h .blank k (omega arith) in (kept (4 * k) (omega arith) x, kept (4 * k + 1) (omega arith) y, kept (4 * k + 2) (omega arith) z);
+        (λ other. kept-at (4 * k + 2) (λ x. omega arith) (λ x. omega arith) (λ x. other (omega arith)) (λ x. omega arith) ∙ h .b k (omega arith)) (same? k n);
+    blank = λ k q. let (x, y, z) = h .blank k (omega arith) in
+        (kept (4 * k) (omega arith) x, kept (4 * k + 1) (omega arith) y, kept (4 * k + 2) (omega arith) z);
     size = sizes-at;
     fit = fits-at;
   }
@@ -128,7 +136,9 @@ word-size (finite s) h = sized-finite s (omega arith)
 word-size endless h = sized-endless (2 ^ 63) (omega arith)
 
 pub plan-sizes : {t : List ℕ} {zs : List Size} {n : ℕ} {plan : List ℕ} → Planned t zs n plan → (k : ℕ) → sizeIn plan k ≡ sizeAt zs k
-plan-sizes {zs} {n} {plan} h k = ap sizeOf (h .size k) ∙ ⊎-elim (λ past. none (List·getD-eq-default zs (finite 0) (omega (arith, h .many)))) (λ l. word-size (sizeAt zs k) (h .fit k l)) (le-or-lt n k)
+plan-sizes {zs} {n} {plan} h k =
+    ap sizeOf (h .size k)
+    ∙ ⊎-elim (λ past. none (List·getD-eq-default zs (finite 0) (omega (arith, h .many)))) (λ l. word-size (sizeAt zs k) (h .fit k l)) (le-or-lt n k)
   where
     -- a node that is not there yet has the word 0
     none : sizeAt zs k ≡ finite 0 → sizeOf (codeOf (sizeAt zs k)) ≡ sizeAt zs k

@@ -61,7 +61,13 @@ module _ {t p old plan : List ℕ} {n : ℕ} (c : Weighing t p old n plan) (l : 
   unfolding scan onward
   turn s r q g =
       let m = row-fit t p (sizeAt (c .zs)) n r (c .plans .fit) in
-      record { le = omega arith; same = rw g (simp length-set (c .same)); zs = c .zs ++ (s ∷ []); is = rw (add-one, c .is, r); plans = rw g (plan-more (c .plans) l s m q) }
+      record {
+        le = omega arith;
+        same = rw g (simp length-set (c .same));
+        zs = c .zs ++ (s ∷ []);
+        is = rw (add-one, c .is, r);
+        plans = rw g (plan-more (c .plans) l s m q);
+      }
 
   pub weighing-more : {s : ℕ} {next : List ℕ} → w ≡ Of s → next ≡ rowed plan n (kindOf t n) (aOf t n) (bOf t n) s → Weighing t p old (n + 1) next
   weighing-more f g = let (s, r, q) = coded-of (rowAt t p (sizeAt (c .zs)) n) (sym here ∙ f) in turn s r q g

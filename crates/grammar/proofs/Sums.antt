@@ -40,7 +40,8 @@ measured-row (finite s) = by (leb s (2 ^ 62))
 measured-row endless = refl
 
 -- the row of or and of cons, whose parts are lower: f is their sum or their product
-pub pair-row : (f : Size → Size → Size) (z : ℕ → Size) (n a b : ℕ) {m : Measured} {w : Weighed} → a < n → b < n → m ≡ measured (f (z a) (z b)) → w ≡ weighedOf m
+pub pair-row : (f : Size → Size → Size) (z : ℕ → Size) (n a b : ℕ) {m : Measured} {w : Weighed} → a < n → b < n
+    → m ≡ measured (f (z a) (z b)) → w ≡ weighedOf m
     → let s = f (before z n a) (before z n b) in w ≡ coded (row (asks (ltb a n && ltb b n) Reference ∷ asks (fits s) TooLarge ∷ []) s)
 unfolding row
 pair-row f z n a b l k m w = rw (w, m, lt-ltb a n l, lt-ltb b n k) (measured-row (f (z a) (z b)))
@@ -100,7 +101,14 @@ pub record Tally (z : ℕ → Size) (n : ℕ) (cs : List ℕ) (f s : ℕ) : Type
 
 tally-none : {z : ℕ → Size} {n : ℕ} → Tally z n [] 0 0
 unfolding every total
-tally-none = record { lower = refl; most = omega arith; all = λ e. (refl, refl); not-all = λ l. absurd (omega arith); none = λ e. refl; not-none = λ l. absurd (omega arith) }
+tally-none = record {
+  lower = refl;
+  most = omega arith;
+  all = λ e. (refl, refl);
+  not-all = λ l. absurd (omega arith);
+  none = λ e. refl;
+  not-none = λ l. absurd (omega arith);
+}
 
 module _ {z : ℕ → Size} {n : ℕ} {cs : List ℕ} {f s : ℕ} (t : Tally z n cs f s) (c : ℕ) (l : c < n) where
   longer : length (cs ++ (c ∷ [])) ≡ length cs + 1

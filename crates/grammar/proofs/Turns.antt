@@ -55,12 +55,15 @@ pub record Turning (plan p : List ℕ) (at m n rest k : ℕ) : Type 0 where
 pub turning-none : {plan p : List ℕ} {at m n : ℕ} → Turning plan p at m n n 0
 turning-none = record { le = omega arith; is = sym (later-none _) }
 
-module _ {plan p : List ℕ} {at m n rest k : ℕ} (in-p : at + m ≤ length p) (f : (j : ℕ) → j < m → wordAt plan p at j < 2 ^ 63) (s : Turning plan p at m n rest k) where
+module _ {plan p : List ℕ} {at m n rest k : ℕ} (in-p : at + m ≤ length p) (f : (j : ℕ) → j < m → wordAt plan p at j < 2 ^ 63)
+    (s : Turning plan p at m n rest k) where
   module _ (l : k < m) where
     here : inTurn (counts (sizeIn plan) (drop k (take m (drop at p)))) rest
         ≡ inTurn (wordAt plan p at k ∷ counts (sizeIn plan) (drop (suc k) (take m (drop at p)))) rest
     unfolding all
-    here = rw (step-at plan p at m in-p f k n l) (ap (λ (x : ℕ). inTurn (x ∷ counts (sizeIn plan) (drop (suc k) (take m (drop at p)))) rest) (count-at plan p at m in-p f k l))
+    here =
+        rw (step-at plan p at m in-p f k n l)
+        (ap (λ (x : ℕ). inTurn (x ∷ counts (sizeIn plan) (drop (suc k) (take m (drop at p)))) rest) (count-at plan p at m in-p f k l))
 
     pub turning-found : rest < wordAt plan p at k → pair k rest ≡ inTurn (counts (sizeIn plan) (take m (drop at p))) n
     unfolding inTurn later

@@ -1,4 +1,4 @@
--- A file a kind: it keeps the law.
+-- A file a kind: it keeps the law, and where its steps lead.
 pub mod Below
 pub mod Nats
 pub mod Pool

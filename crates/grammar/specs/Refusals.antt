@@ -3,7 +3,9 @@
 -- Assumes nothing.
 use Prim.Native.Nat.{ℕ}
 use Rattle.grammar.specs.declared.refusal.Refusal.{Refusal}
-use Rattle.grammar.specs.declared.refusal.Refusal.the-variants.{Length, Kind, SpareWord, Reference, Range, Repeat, UnsuitedPart, TooLarge, Unguarded, ExceptOnCycle, NoSuchStart, NoSuchNumber, TooDeep, NoRoom, NotACase, NumberTooLarge}
+use Rattle.grammar.specs.declared.refusal.Refusal.the-variants.{Length, Kind, SpareWord, Reference, Range, Repeat, UnsuitedPart, TooLarge}
+use Rattle.grammar.specs.declared.refusal.Refusal.the-variants.{Unguarded, ExceptOnCycle, NoSuchStart, NoSuchNumber}
+use Rattle.grammar.specs.declared.refusal.Refusal.the-variants.{TooDeep, NoRoom, NotACase, NumberTooLarge}
 
 -- "1 length, 2 kind, 3 spare word, 4 reference, 5 range, 6 repeat, 7 unsuited part, 8 size, 9 unguarded, 10 except on a cycle", and 11 to 16
 unfoldable pub numberOf : Refusal → ℕ

@@ -25,7 +25,7 @@ use super::refusal::Verdict;
 const KINDS: usize = 10;
 
 // "One constant table says which of a and b each kind uses": yes or no for a and for b, a row a kind.
-const USED: [[bool; 2]; 10] = [
+const USED: [[bool; 2]; KINDS] = [
     [true, false], // below: count
     [false, false], // nats: none
     [true, true], // pool: place, count
@@ -39,7 +39,7 @@ const USED: [[bool; 2]; 10] = [
 ];
 
 // "a word not used is zero". Of a kind that is not known nothing is spare, so that its row refuses it (2).
-fn spare_words(used: &[[bool; 2]; 10], kind: usize, a: u64, b: u64) -> bool
+fn spare_words(used: &[[bool; 2]; KINDS], kind: usize, a: u64, b: u64) -> bool
     requires { ⌜ now used ≡ usedWords ⌝ }
     ensures { λ r. ⌜ r ≡ spare (kindIn kind) a b ⌝ }
 {
@@ -70,7 +70,7 @@ fn row(table: &[u64], pool: &[u64], plan: &[u64], n: usize, kind: u64, a: u64, b
 }
 
 // The whole row of node n.
-fn weigh(used: &[[bool; 2]; 10], table: &[u64], pool: &[u64], plan: &[u64], n: usize) -> Weighed
+fn weigh(used: &[[bool; 2]; KINDS], table: &[u64], pool: &[u64], plan: &[u64], n: usize) -> Weighed
     requires { ⌜ now used ≡ usedWords ⌝ }
     requires { ⌜ (length (now table) ≡ 3 * nodes (now table)) × (n < nodes (now table)) × (4 * n ≤ length (now plan)) ⌝ }
     ensures { λ r. ⌜ r ≡ coded (rowAt (now (table .entry)) (now (pool .entry)) (sizeIn (now (plan .entry))) n) ⌝ }

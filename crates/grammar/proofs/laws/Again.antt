@@ -1,4 +1,5 @@
--- The law of again.
+-- The law of again. Its step leads up.
+--   again-law    its rule is lawful, and its size fits
 -- Assumes nothing.
 use mathlib.Core.Bool.{_&&_}
 use lib.Dec.{ltb}

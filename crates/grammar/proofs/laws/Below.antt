@@ -1,4 +1,6 @@
 -- The law of below.
+--   below-law      its rule is lawful, and its size fits
+--   below-lower    it steps nowhere
 -- Assumes nothing.
 use mathlib.Core.Path.{_≡_, refl}
 use mathlib.Core.List.{[], _∷_}
@@ -18,7 +20,8 @@ below-rule : (z : ℕ → Size) (count a : ℕ) → Lawful z count (belowRule a)
 unfolding belowRule
 below-rule z count a = record {
   writes = λ n h. spell-takes z (λ c. pick (ltb c a) (done c) fails) n (spell-left z (ltb n a) (done n) fails (lt-ltb n a h) (spell-done z n));
-  reads = λ w. read-pick z (λ n is. (n < a) × (own n ∷ [] ≡ own (w .0) ∷ is)) (ltb (w .0) a) (done (w .0)) fails (λ e v. (ltb-true (w .0) a e, refl)) (λ e v. absurd v) (w .1);
+  reads = λ w. read-pick z (λ n is. (n < a) × (own n ∷ [] ≡ own (w .0) ∷ is)) (ltb (w .0) a) (done (w .0)) fails
+      (λ e v. (ltb-true (w .0) a e, refl)) (λ e v. absurd v) (w .1);
   names = λ c. names-pick z [] (ltb c a) (done c) fails tt tt;
   meets = tt;
   inside = tt;

@@ -1,4 +1,6 @@
 -- The law of cons.
+--   cons-law      its rule is lawful, and its size fits
+--   cons-lower    its steps lead to lower nodes
 -- Assumes nothing.
 use mathlib.Core.Path.{_≡_, refl, ap}
 use mathlib.Core.Bool.{true}
@@ -25,7 +27,8 @@ cons-rule z count a b la lb sa sb = record {
       let q = Cons.split (z a) (z b) n in
       let s = Conses.split-below (z a) (z b) n sa sb h in
       record { path = (q .first, s .0, (q .second, s .1, tt)); passes = refl; ends = Conses.join-split (z a) (z b) n };
-  reads = λ w. (Conses.join-below (z a) (z b) (w .0) (w .2 .0) (w .1) (w .2 .1), ap (both a b) (Conses.split-join (z a) (z b) (w .0) (w .2 .0) (w .1) (w .2 .1)));
+  reads = λ w. let (x, hx, (y, hy, e)) = w in
+      (Conses.join-below (z a) (z b) x y hx hy, ap (both a b) (Conses.split-join (z a) (z b) x y hx hy));
   names = (List·Memᴰ·head refl, λ m h. (List·Memᴰ·tail (List·Memᴰ·head refl), λ m' h'. tt));
   meets = tt;
   inside = (la, (lb, tt));
@@ -49,11 +52,13 @@ cons-law = record {
       let eb = and-right (ltb (v .a) (v .own)) (ltb (v .b) (v .own)) (h .0) in
       let la = ltb-true (v .a) (v .own) ea in
       let lb = ltb-true (v .b) (v .own) eb in
-      rw (ea, eb) (cons-rule z (v .nodes) (v .a) (v .b) (omega (arith, r .node)) (omega (arith, r .node)) (fit-some (z (v .a)) (r .fit (v .a) la)) (fit-some (z (v .b)) (r .fit (v .b) lb)));
+      rw (ea, eb) (cons-rule z (v .nodes) (v .a) (v .b) (omega (arith, r .node)) (omega (arith, r .node))
+      (fit-some (z (v .a)) (r .fit (v .a) la)) (fit-some (z (v .b)) (r .fit (v .b) lb)));
   fit = λ v z f h.
       let ea = and-left (ltb (v .a) (v .own)) (ltb (v .b) (v .own)) (h .0) in
       let eb = and-right (ltb (v .a) (v .own)) (ltb (v .b) (v .own)) (h .0) in
-      unfold consRule in rw (ea, eb) (fit-times (z (v .a)) (z (v .b)) (f (v .a) (ltb-true (v .a) (v .own) ea)) (f (v .b) (ltb-true (v .b) (v .own) eb)) (rw (ea, eb) at (h .1 .0)));
+      unfold consRule in rw (ea, eb) (fit-times (z (v .a)) (z (v .b)) (f (v .a) (ltb-true (v .a) (v .own) ea)) (f (v .b) (ltb-true (v .b) (v .own) eb))
+      (rw (ea, eb) at (h .1 .0)));
 }
 
 pub cons-lower : Lower cons

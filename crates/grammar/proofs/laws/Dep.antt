@@ -1,4 +1,6 @@
 -- The law of dep.
+--   dep-law      its rule is lawful, and its size fits
+--   dep-lower    its steps lead to lower nodes
 -- Assumes nothing.
 use mathlib.Core.Path.{_≡_, refl, subst, ap}
 use mathlib.Core.Bool.{Bool, true, not, _||_, false≢true}
@@ -90,7 +92,8 @@ module _ (z : ℕ → Size) (count a : ℕ) (cs : List ℕ) (long : length cs �
         let q = Dep.split zs n in
         let s = Deps.split-below zs n (rw (seconds-firsts z cs) many) (rw (seconds-size z cs alike many) h) in
         let k : q .first < length cs = rw (seconds-firsts z cs) at (s .0) in
-        let least = Deps.join-least zs (q .first) (q .second) (s .0) (λ x m. let w : x < length cs = rw (seconds-firsts z cs) at m in rw (second-is x w) (some x w)) in
+        let least = Deps.join-least zs (q .first) (q .second) (s .0)
+        (λ x m. let w : x < length cs = rw (seconds-firsts z cs) at m in rw (second-is x w) (some x w)) in
         let l = rw (Deps.join-split zs n) at least in
         (flat (List·Memᴰ·head refl) (l .0), (flat (List·Memᴰ·tail (mem-at cs (q .first) k)) (l .1), tt));
   }
@@ -127,7 +130,8 @@ module _ (z : ℕ → Size) (n : ℕ) where
   alike-before cs e = rw (every-before (λ s. not (isEndless s)) cs e, every-before isEndless cs e)
 
 -- of a list of sizes that fit, the sum fits where it is tested
-fit-total : (z : ℕ → Size) (n : ℕ) → ((i : ℕ) → i < n → Fit (z i)) → (cs : List ℕ) → allLower n cs ≡ true → 0 < length cs → fits (total z cs) ≡ true → Fit (total z cs)
+fit-total : (z : ℕ → Size) (n : ℕ) → ((i : ℕ) → i < n → Fit (z i)) → (cs : List ℕ) → allLower n cs ≡ true → 0 < length cs
+    → fits (total z cs) ≡ true → Fit (total z cs)
 unfolding every total
 fit-total z n f [] e l u = absurd (not-suc-le-zero l)
 fit-total z n f (c ∷ cs) e l u = by (z c) (total z cs) (f c (ltb-true c n (and-left (ltb c n) (allLower n cs) e))) u

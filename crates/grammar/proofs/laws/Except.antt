@@ -1,4 +1,6 @@
 -- The law of except.
+--   except-law      its rule is lawful, and its size fits
+--   except-lower    its steps lead to lower nodes
 -- Assumes nothing.
 use mathlib.Core.Path.{_≡_, refl, subst}
 use mathlib.Core.Bool.{Bool, true, false, not, false≢true}
@@ -25,8 +27,10 @@ unfolding exceptRule
 except-rule z count a b l hb = record {
   writes = λ n h. subst (Spells z (reads a 0 (λ m. pick (eqb m b) fails (done (Except.join b m)))) (part a (Except.split b n) 0 ∷ [])) (Excepts.join-split b n)
       (spell-reads z a 0 (λ m. pick (eqb m b) fails (done (Except.join b m))) (Except.split b n) (Excepts.split-below (z a) b n h)
-      (spell-right z (eqb (Except.split b n) b) fails _ (ne-eqb (Except.split b n) b (Excepts.split-kept b n)) (spell-done z (Except.join b (Except.split b n)))));
-  reads = λ w. read-pick z (λ n is. Below n (less (z a)) × (part a (Except.split b n) 0 ∷ [] ≡ part a (w .0) 0 ∷ is)) (eqb (w .0) b) fails (done (Except.join b (w .0)))
+      (spell-right z (eqb (Except.split b n) b) fails _ (ne-eqb (Except.split b n) b (Excepts.split-kept b n))
+      (spell-done z (Except.join b (Except.split b n)))));
+  reads = λ w. read-pick z (λ n is. Below n (less (z a)) × (part a (Except.split b n) 0 ∷ [] ≡ part a (w .0) 0 ∷ is))
+      (eqb (w .0) b) fails (done (Except.join b (w .0)))
       (λ e v. absurd v)
       (λ e v. let ne = eqb-false (w .0) b e in (Excepts.join-below (z a) b (w .0) hb (w .1) ne, rw (Excepts.split-join b (w .0) ne))) (w .2);
   names = (List·Memᴰ·head refl, λ m h. names-pick z (a ∷ []) (eqb m b) fails (done (Except.join b m)) tt tt);

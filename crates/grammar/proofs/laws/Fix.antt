@@ -1,4 +1,6 @@
 -- The law of fix.
+--   fix-law      its rule is lawful, and its size fits
+--   fix-lower    its steps lead to lower nodes
 -- Assumes nothing.
 use mathlib.Core.Path.{_≡_, refl}
 use mathlib.Core.Bool.{true, false≢true}

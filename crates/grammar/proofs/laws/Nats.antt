@@ -1,4 +1,6 @@
 -- The law of nats.
+--   nats-law      its rule is lawful, and its size fits
+--   nats-lower    it steps nowhere
 -- Assumes nothing.
 use mathlib.Core.Path.{refl}
 use Prim.Native.Nat.{ℕ}

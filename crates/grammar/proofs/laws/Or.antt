@@ -1,4 +1,6 @@
 -- The law of or.
+--   or-law      its rule is lawful, and its size fits
+--   or-lower    its steps lead to lower nodes
 -- Assumes nothing.
 use mathlib.Core.Path.{_≡_, refl, subst}
 use mathlib.Core.Bool.{true}
@@ -44,7 +46,8 @@ module _ (z : ℕ → Size) (count a b : ℕ) where
   or-rule : a < count → b < count → Some (z a) → Lawful z count rule
   unfolding orRule
   or-rule la lb sa = record {
-    writes = λ n h. subst (Spells z (rule .tree) (tagged a b (Or.split (z a) (z b) n))) (Ors.join-split (z a) (z b) n) (or-writes (Or.split (z a) (z b) n) (Ors.split-below (z a) (z b) n h));
+    writes = λ n h. subst (Spells z (rule .tree) (tagged a b (Or.split (z a) (z b) n))) (Ors.join-split (z a) (z b) n)
+        (or-writes (Or.split (z a) (z b) n) (Ors.split-below (z a) (z b) n h));
     reads = λ w.
         let P : ℕ → List Item → Type 0 = λ n is. Below n (plus (z a) (z b)) × (tagged a b (Or.split (z a) (z b) n) ≡ own (w .0) ∷ is) in
         read-pick z P (eqb (w .0) 0) _ _

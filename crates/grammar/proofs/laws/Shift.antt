@@ -1,4 +1,6 @@
 -- The law of shift.
+--   shift-law      its rule is lawful, and its size fits
+--   shift-lower    its steps lead to lower nodes
 -- Assumes nothing.
 use mathlib.Core.Path.{refl}
 use mathlib.Core.List.{List·Memᴰ·head}

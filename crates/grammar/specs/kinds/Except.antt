@@ -27,6 +27,7 @@ abbrev pub except : Kind
 except = record {
   usesA = true;
   usesB = true;
-  checks = λ v z. asks (lower v (v .a)) Reference ∷ asks (not (isOne (z (v .a)))) UnsuitedPart ∷ asks (isBelow (v .b) (z (v .a)) && ltb (v .b) (2 ^ 62)) Range ∷ [];
+  checks = λ v z. asks (lower v (v .a)) Reference ∷ asks (not (isOne (z (v .a)))) UnsuitedPart
+      ∷ asks (isBelow (v .b) (z (v .a)) && ltb (v .b) (2 ^ 62)) Range ∷ [];
   rule = λ a b p z. exceptRule (z a) a b;
 }

@@ -32,6 +32,7 @@ abbrev pub pool : Kind
 pool = record {
   usesA = true;
   usesB = true;
-  checks = λ v z. asks ((leb 1 (v .b) && leb (v .b) 4096) && within (v .a) (v .b) (v .pool)) Range ∷ asks (different (take (v .b) (drop (v .a) (v .pool)))) Repeat ∷ [];
+  checks = λ v z. asks ((leb 1 (v .b) && leb (v .b) 4096) && within (v .a) (v .b) (v .pool)) Range
+      ∷ asks (different (take (v .b) (drop (v .a) (v .pool)))) Repeat ∷ [];
   rule = λ a b p z. poolRule (take b (drop a p)) b;
 }

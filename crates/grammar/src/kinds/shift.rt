@@ -3,7 +3,7 @@ ghost use mathlib.Core.Path.{_≡_};
 ghost use mathlib.Core.List.{List};
 ghost use Prim.Native.Nat.{ℕ, _+_, _*_, _<_, _≤_};
 ghost use lib.ListN.{length};
-ghost use Rattle.grammar.specs.Table.{kindOf, nodes};
+ghost use Rattle.grammar.specs.Table.{nodes};
 ghost use Rattle.grammar.specs.Nodes.{nodeWith};
 ghost use Rattle.grammar.specs.kinds.Shift.{shift};
 ghost use Rattle.grammar.specs.Plan.{sizeIn, weighed};

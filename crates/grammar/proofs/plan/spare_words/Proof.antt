@@ -18,6 +18,21 @@ spare-words-spec =
     (λ c. search needs)
     (λ c. search needs)
     (λ c. search needs)
-    (λ c. let x = c .before .before .before .before .before .before .args in spare-second (x .kind) (x .a) (x .b) (c .before .before .before .before .before .before .pre) (c .before .before .before .before .before .if1 .left) (⊎-elim (λ w. or-yes _ (w .0 .taken) (w .1)) (λ w. or-no _ (w .0 .left) (w .1)) (c .before .before .before .if2 .came)) (c .before .before .if3 .taken) (or-yes _ (c .if4 .taken) refl))
-    (λ c. let x = c .before .before .before .before .before .before .args in spare-second (x .kind) (x .a) (x .b) (c .before .before .before .before .before .before .pre) (c .before .before .before .before .before .if1 .left) (⊎-elim (λ w. or-yes _ (w .0 .taken) (w .1)) (λ w. or-no _ (w .0 .left) (w .1)) (c .before .before .before .if2 .came)) (c .before .before .if3 .taken) (or-no _ (c .if4 .left) refl))
-    (λ c. let x = c .before .before .before .before .args in spare-first (x .kind) (x .a) (x .b) (c .before .before .before .before .pre) (c .before .before .before .if1 .left) (⊎-elim (λ w. or-yes _ (w .0 .taken) (w .1)) (λ w. or-no _ (w .0 .left) (w .1)) (c .before .if2 .came)) (c .if3 .left)))
+    (λ c. let j = c .before .before .before in
+    let d = j .before .before in
+    let x = d .before .args in
+    spare-second (x .kind) (x .a) (x .b) (d .before .pre) (d .if1 .left)
+    (⊎-elim (λ w. or-yes _ (w .0 .taken) (w .1)) (λ w. or-no _ (w .0 .left) (w .1)) (j .if2 .came))
+    (c .before .before .if3 .taken) (or-yes _ (c .if4 .taken) refl))
+    (λ c. let j = c .before .before .before in
+    let d = j .before .before in
+    let x = d .before .args in
+    spare-second (x .kind) (x .a) (x .b) (d .before .pre) (d .if1 .left)
+    (⊎-elim (λ w. or-yes _ (w .0 .taken) (w .1)) (λ w. or-no _ (w .0 .left) (w .1)) (j .if2 .came))
+    (c .before .before .if3 .taken) (or-no _ (c .if4 .left) refl))
+    (λ c. let j = c .before in
+    let d = j .before .before in
+    let x = d .before .args in
+    spare-first (x .kind) (x .a) (x .b) (d .before .pre) (d .if1 .left)
+    (⊎-elim (λ w. or-yes _ (w .0 .taken) (w .1)) (λ w. or-no _ (w .0 .left) (w .1)) (j .if2 .came))
+    (c .if3 .left)))

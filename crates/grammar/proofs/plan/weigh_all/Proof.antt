@@ -40,6 +40,7 @@ weigh-all-spec =
     (λ c κs. omega arith)
     (λ c. omega arith)
     (λ c. omega arith)
-    (λ c. weighing-more (c .before .before .before .before .before .before .before .before .before .before .before .before .before .before .loop .inv) (omega arith) (c .before .before .before .before .before .before .before .before .before .before .weigh .ensures) (search needs) (c .before .before .put-row .ensures))
+    (λ c. let w = c .before .before .before .before .before .before .before .before .before .before in
+    weighing-more (w .before .before .before .before .loop .inv) (omega arith) (w .weigh .ensures) (search needs) (c .before .before .put-row .ensures))
     (λ c. search needs)
     (λ c. search weighing-end))

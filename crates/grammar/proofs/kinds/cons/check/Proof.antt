@@ -27,4 +27,6 @@ check-spec =
     (λ c. search needs)
     (λ c κs. search needs)
     (λ c κs. search needs)
-    (λ c. λ t p. pair-row times (sizeIn (c .before .before .before .before .before .before .before .args .plan .now)) _ _ _ (c .before .before .before .before .before .if1 .left) (c .before .before .before .before .if2 .left) (c .before .product .ensures) (c .of-measured .ensures)))
+    (λ c. λ t p. let d = c .before .before .before .before in
+    pair-row times (sizeIn (d .before .before .before .args .plan .now)) _ _ _ (d .before .if1 .left) (d .if2 .left)
+    (c .before .product .ensures) (c .of-measured .ensures)))

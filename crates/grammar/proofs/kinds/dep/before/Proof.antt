@@ -26,7 +26,8 @@ before-spec =
     (λ c. omega (arith, c .before .before .before .pre .1 .0 (c .before .before .loop .j) (omega arith)))
     (λ c. omega (arith, c .before .before .before .pre .1 .0 (c .before .before .loop .j) (omega arith)))
     (λ c. omega (arith, c .before .before .before .before .pre .1 .0 (c .before .before .before .loop .j) (omega arith)))
-    (λ c. let s = c .before .before .before .before .pre in omega (arith, summing-fits (s .0) (s .1 .1 .0) (c .before .before .before .loop .inv) (c .before .before .loop-test .taken) (s .1 .1 .1)))
+    (λ c. let s = c .before .before .before .before .pre in
+    omega (arith, summing-fits (s .0) (s .1 .1 .0) (c .before .before .before .loop .inv) (c .before .before .loop-test .taken) (s .1 .1 .1)))
     (λ c. omega arith)
     (λ c. omega arith)
     (λ c. search summing-more)

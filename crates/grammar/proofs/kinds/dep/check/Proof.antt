@@ -53,4 +53,7 @@ check-spec =
     (λ c. search needs)
     (λ c. search (tests, not-many, the-count))
     (λ c κs. search needs)
-    (λ c. λ t. seconds-decide t (c .before .before .before .before .before .before .before .before .args .pool .now) (c .before .before .before .before .before .before .before .before .args .plan .now) _ _ _ (c .before .before .before .before .before .if1 .left) (c .before .before .before .if2 .left) (c .before .before .if3 .left) (c .before .if4 .left) (c .seconds .ensures)))
+    (λ c. λ t. let d = c .before .before .before in
+    let x = d .before .before .before .before .before .args in
+    seconds-decide t (x .pool .now) (x .plan .now) _ _ _ (d .before .before .if1 .left) (d .if2 .left) (c .before .before .if3 .left) (c .before .if4 .left)
+    (c .seconds .ensures)))

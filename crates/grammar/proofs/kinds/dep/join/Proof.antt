@@ -1,9 +1,7 @@
 -- `grammar::kinds::dep::join` is the join of a dep.
 -- Assumes nothing.
-use mathlib.Core.Path.{_∙_, ap}
 use borrow.Author.Needs.{needs}
 use native.Mathlib.Omega.{arith}
-use Rattle.numbers.specs.Joined.{capped}
 use Rattle.grammar.proofs.Turns.{head-in}
 use Rattle.grammar.proofs.Joins.{few-sum, finite-join, endless-join}
 use Rattle.grammar.proofs.kinds.dep.join.Statement.{statement}
@@ -22,10 +20,14 @@ join-spec =
     (λ c κs. let d = c .before .before .before .before .before .pre .0 in let l = c .before .before .before .before .before .pre .1 in let h = c .if1 .taken in
     (omega (arith, d .inside), ((λ j m. d .nodes j (omega arith)), ((λ j m. d .finite h j (omega arith)), few-sum d l h))))
     (λ c κs. search needs)
-    (λ c. rw (← finite-join (c .before .before .before .before .before .before .before .pre .0) (c .before .before .before .before .before .before .before .pre .1) (c .before .before .if1 .taken) _, ← c .before .before2 .ensures) (c .join-finite .ensures))
+    (λ c. let d = c .before .before in
+    let s = d .before .before .before .before .before .pre in
+    rw (← finite-join (s .0) (s .1) (d .if1 .taken) _, ← c .before .before2 .ensures) (c .join-finite .ensures))
     (λ c. omega (arith, c .before .before .before .before .before .pre .0 .first))
     (λ c. omega (arith, c .before .before .before .before .before .pre .0 .first))
     (λ c. omega (arith, c .before .before .before .before .before .pre .0 .first))
     (λ c. omega (arith, c .before .before .before .before .before .before .pre .0 .first))
     (λ c κs. search needs)
-    (λ c. rw (← endless-join (c .before .before .before .before .before .before .before .pre .0) (c .before .before .before .before .before .before .before .pre .1) (c .before .before .if1 .left) _) (c .join-endless .ensures)))
+    (λ c. let d = c .before .before in
+    let s = d .before .before .before .before .before .pre in
+    rw (← endless-join (s .0) (s .1) (d .if1 .left) _) (c .join-endless .ensures)))

@@ -3,7 +3,8 @@
 use mathlib.Core.Logic.{⊎-elim}
 use Prim.Native.Nat.{_-_}
 use native.Mathlib.Omega.{arith}
-use Rattle.grammar.proofs.Sums.{Passing, turn-none, turn-few, turn-not-lower, turn-endless, turn-adds, turn-past, end-sum, end-past, end-endless, end-mixed}
+use Rattle.grammar.proofs.Sums.{Passing, turn-none, turn-few, turn-not-lower, turn-endless, turn-adds, turn-past}
+use Rattle.grammar.proofs.Sums.{end-sum, end-past, end-endless, end-mixed}
 use Rattle.grammar.proofs.kinds.dep.seconds.Statement.{statement}
 use Rattle.grammar.proofs.kinds.dep.seconds.Tie as tie
 
@@ -32,13 +33,17 @@ seconds-spec =
     (λ c. omega arith)
     (λ c. omega arith)
     (λ c. omega arith)
-    (λ c. ⊎-elim
-    (λ w. rw (w .2, w .3) (turn-adds (c .before .before .before .before .before .before .pre .0) (c .before .before .before .before .before .loop .inv) (c .before .before .before .before .loop-test .taken) (omega arith) (omega arith) (omega arith)))
+    (λ c. let d = c .before .before .before .before in
+    let i = d .before .before .pre .0 in
+    ⊎-elim
+    (λ w. rw (w .2, w .3) (turn-adds i (d .before .loop .inv) (d .loop-test .taken) (omega arith) (omega arith) (omega arith)))
     (⊎-elim
-    (λ w. rw (w .2, w .3) (turn-past (c .before .before .before .before .before .before .pre .0) (c .before .before .before .before .before .loop .inv) (c .before .before .before .before .loop-test .taken) (omega arith) (omega arith) (omega arith)))
-    (λ w. rw (w .1, w .2) (turn-endless (c .before .before .before .before .before .before .pre .0) (c .before .before .before .before .before .loop .inv) (c .before .before .before .before .loop-test .taken) (omega arith) (omega arith))))
+    (λ w. rw (w .2, w .3) (turn-past i (d .before .loop .inv) (d .loop-test .taken) (omega arith) (omega arith) (omega arith)))
+    (λ w. rw (w .1, w .2) (turn-endless i (d .before .loop .inv) (d .loop-test .taken) (omega arith) (omega arith))))
     (c .if2 .came))
-    (λ c. end-past (c .before .before .before .before .pre .0) (c .before .before .before .loop .inv) (c .before .before .loop-test .left) (c .before .if4 .taken) (omega arith))
-    (λ c. end-sum (c .before .before .before .before .pre .0) (c .before .before .before .loop .inv) (c .before .before .loop-test .left) (c .before .if4 .taken) (omega arith))
+    (λ c. let d = c .before .before in
+    end-past (d .before .before .pre .0) (d .before .loop .inv) (d .loop-test .left) (c .before .if4 .taken) (omega arith))
+    (λ c. let d = c .before .before in
+    end-sum (d .before .before .pre .0) (d .before .loop .inv) (d .loop-test .left) (c .before .if4 .taken) (omega arith))
     (λ c. search end-endless)
     (λ c. search end-mixed))
