@@ -16,7 +16,7 @@ use lib.ListN.{length, take, drop}
 use Rattle.grammar.specs.Verdict.{verdict}
 use Rattle.grammar.specs.declared.refusal.Refusal.{Refusal}
 use Rattle.grammar.specs.declared.refusal.Verdict.{Verdict}
-use Rattle.visits.specs.Grammar.{grammarOf}
+use Rattle.grammar.specs.Sizes.{rulesOf}
 use Rattle.walk.specs.Walk.{walk, cells, depth}
 use Rattle.walk.specs.Filled.{over}
 use Rattle.walk.proofs.Fills.{over-back, part-old}
@@ -102,14 +102,14 @@ module _ {t p : List ℕ} {i n : ℕ} {old last : List ℕ} {r : Written} (room 
   pub wrote-done : {count : ℕ} → r ≡ Done count → cellsText count (take count last) ++ endText last count ≡ caseText t p i room n
   unfolding caseText writeText
   wrote-done {count} e =
-      let cs = cells (walk (grammarOf t p) depth i n) in
+      let cs = cells (walk (rulesOf t p) depth 0 i n) in
       let holds : last ≡ over cs old = k .holds ∙ ap (λ (w : Written). leaves w cs old) e in
       rw (answer, e, written-cells k count e, end-done room cs old (written-size k count e) holds start)
 
   pub wrote-refused : {x : Refusal} {node : ℕ} → r ≡ Refused x node → refusedText x node ++ endText last 0 ≡ caseText t p i room n
   unfolding caseText writeText refusedLine
   wrote-refused e =
-      let cs = cells (walk (grammarOf t p) depth i n) in
+      let cs = cells (walk (rulesOf t p) depth 0 i n) in
       rw (answer, e, end-kept room (k .holds ∙ ap (λ (w : Written). leaves w cs old) e) start)
 
 -- ---- the calls on rows
@@ -121,12 +121,12 @@ module _ {t p : List ℕ} {i : ℕ} {ws old last : List ℕ} {r : Rows.Row} (roo
     pub row-done : {items count : ℕ} → r ≡ DoneRow items count → itemsText items ++ (cellsText count (take count last) ++ endText last count) ≡ wayText Writes t p i room ws
     unfolding wayText rowText
     row-done e =
-        let cs = rowOf (grammarOf t p) i ws in
+        let cs = rowOf (rulesOf t p) i ws in
         rw (row-answer, e, row-cells k e, end-done room cs old (row-size k e) (k .holds ∙ ap (λ (w : Rows.Row). Row.leaves w cs old) e) start)
 
     pub row-refused : {x : Refusal} {node item : ℕ} → r ≡ NotDone x node item → refusedItem x node item ++ endText last 0 ≡ wayText Writes t p i room ws
     unfolding wayText rowText
-    row-refused e = rw (row-answer, e, end-kept room (k .holds ∙ ap (λ (w : Rows.Row). Row.leaves w (rowOf (grammarOf t p) i ws) old) e) start)
+    row-refused e = rw (row-answer, e, end-kept room (k .holds ∙ ap (λ (w : Rows.Row). Row.leaves w (rowOf (rulesOf t p) i ws) old) e) start)
 
   module _ (k : GotRow t p i ws old last r) where
     long : length old ≡ room
@@ -138,12 +138,12 @@ module _ {t p : List ℕ} {i : ℕ} {ws old last : List ℕ} {r : Rows.Row} (roo
     pub got-done : {items count : ℕ} → r ≡ DoneRow items count → itemsText items ++ (cellsText count (take items last) ++ endText last items) ≡ wayText Reads t p i room ws
     unfolding wayText rowText
     got-done e =
-        let ns = gotten (gather (grammarOf t p) i (length old) ws) in
+        let ns = gotten (gather (rulesOf t p) i (length old) ws) in
         rw (got-answer, e, ← long, got-numbers k e, end-done room ns old (got-size k e) (k .holds ∙ ap (λ (w : Rows.Row). Row.leaves w ns old) e) start)
 
     pub got-refused : {x : Refusal} {node item : ℕ} → r ≡ NotDone x node item → refusedItem x node item ++ endText last 0 ≡ wayText Reads t p i room ws
     unfolding wayText rowText
-    got-refused e = rw (got-answer, e, end-kept room (k .holds ∙ ap (λ (w : Rows.Row). Row.leaves w (gotten (gather (grammarOf t p) i (length old) ws)) old) e) start)
+    got-refused e = rw (got-answer, e, end-kept room (k .holds ∙ ap (λ (w : Rows.Row). Row.leaves w (gotten (gather (rulesOf t p) i (length old) ws)) old) e) start)
 
 -- ---- a reader that is asked again and again
 pub record Asking (t p : List ℕ) (i : ℕ) (row page : List ℕ) (used : ℕ) (now : List ℕ) (waits at : ℕ) : Type 0 where

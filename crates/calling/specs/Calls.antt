@@ -14,7 +14,7 @@ use lib.ListN.{length, take, drop}
 use Rattle.grammar.specs.Verdict.{verdict}
 use Rattle.grammar.specs.declared.refusal.Verdict.{Verdict}
 use Rattle.grammar.specs.declared.refusal.Verdict.the-variants.{Accepted, Refused}
-use Rattle.visits.specs.Grammar.{grammarOf}
+use Rattle.grammar.specs.Sizes.{rulesOf}
 use Rattle.walk.specs.Walk.{walk, cells, depth}
 use Rattle.lines.specs.Ascii.{bytes}
 use Rattle.lines.specs.Line.{Reading, numbers, unreadable}
@@ -102,7 +102,7 @@ callOf word =
     (cond (same word (bytes "reader")) Reader Unknown)))))
 
 unfoldable pub caseText : List ℕ → List ℕ → ℕ → ℕ → ℕ → List ℕ
-caseText t p i room n = writeText (cells (walk (grammarOf t p) depth i n)) (writes t p i n room)
+caseText t p i room n = writeText (cells (walk (rulesOf t p) depth 0 i n)) (writes t p i n room)
 
 -- `read` and a reader
 unfoldable pub askText : Ask → List ℕ → List ℕ → ℕ → List ℕ → List ℕ
@@ -111,8 +111,8 @@ askText Items t p i cs = asksText t p i cs
 
 -- the two calls on rows
 unfoldable pub wayText : Way → List ℕ → List ℕ → ℕ → ℕ → List ℕ → List ℕ
-wayText Writes t p i room ns = rowText (rowOf (grammarOf t p) i ns) (writesRow t p i room ns)
-wayText Reads t p i room cs = rowText (gotten (gather (grammarOf t p) i room cs)) (readsRow t p i room cs)
+wayText Writes t p i room ns = rowText (rowOf (rulesOf t p) i ns) (writesRow t p i room ns)
+wayText Reads t p i room cs = rowText (gotten (gather (rulesOf t p) i room cs)) (readsRow t p i room cs)
 
 -- about a table and its pool
 unfoldable pub callText : List ℕ → List ℕ → Call → List ℕ → List ℕ

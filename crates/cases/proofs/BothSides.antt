@@ -19,11 +19,11 @@ use Rattle.grammar.specs.Sizes.{sizeAt, sizes}
 use Rattle.grammar.specs.Verdict.{verdict}
 use Rattle.grammar.specs.declared.refusal.Refusal.the-variants.{NotACase}
 use Rattle.grammar.specs.declared.refusal.Verdict.the-variants.{Accepted}
-use Rattle.visits.specs.Grammar.{grammarOf}
+use Rattle.grammar.specs.Sizes.{rulesOf}
 use Rattle.walk.specs.Walk.{walk, cells, depth}
 use Rattle.walk.specs.Room.{Case, most}
-use Rattle.visits.specs.Reading.{read, taken}
-use Rattle.visits.specs.Good.{Good}
+use Rattle.walk.specs.Run.{read, run}
+use Rattle.grammar.specs.Law.{Good}
 use Rattle.walk.proofs.Parts.{Goes}
 use Rattle.walk.proofs.Back.{shifted-none, back}
 use Rattle.walk.proofs.Only.{only, prefix-free}
@@ -38,47 +38,47 @@ use Rattle.checked.proofs.Fitted.{cells-map}
 use Rattle.cases.proofs.Doors.{reads-is, left-over, found-number, number-found, writes-is, writes-done}
 
 module _ (t p : List ℕ) (a : verdict t p ≡ Accepted) (i : ℕ) (l : i < nodes t) where
-  good : Good (grammarOf t p) (nodes t)
+  good : Good (rulesOf t p) (nodes t)
   good = good-of t p (accepted-passes t p a) (accepted-checked t p a)
 
-  goes : {n : ℕ} → Asked (sizeAt (sizes t p) i) n → Goes (grammarOf t p) (nodes t) i n
+  goes : {n : ℕ} → Asked (sizeAt (sizes t p) i) n → Goes (rulesOf t p) (nodes t) i n
   goes q = record { node = l; below = q .below }
 
   -- ---- what a case is
-  case-of : (n room k : ℕ) → writes t p i n room ≡ Done k → Case (grammarOf t p) i n (cells (walk (grammarOf t p) depth i n))
+  case-of : (n room k : ℕ) → writes t p i n room ≡ Done k → Case (rulesOf t p) i n (cells (walk (rulesOf t p) depth 0 i n))
   case-of n room k e = let (q, s, c, f) = writes-done t p a i l n room k e in record { shows = s; few = omega arith }
 
-  pub case-written : (n room : ℕ) (cs : List ℕ) → Asked (sizeAt (sizes t p) i) n → Case (grammarOf t p) i n cs → length cs ≤ room
-      → (writes t p i n room ≡ Done (length cs)) × (cells (walk (grammarOf t p) depth i n) ≡ cs)
+  pub case-written : (n room : ℕ) (cs : List ℕ) → Asked (sizeAt (sizes t p) i) n → Case (rulesOf t p) i n cs → length cs ≤ room
+      → (writes t p i n room ≡ Done (length cs)) × (cells (walk (rulesOf t p) depth 0 i n) ≡ cs)
   case-written n room cs q c f = (writes-is t p a i l n room cs q (c .shows) (omega (arith, c .few)), rw (c .shows) (cells-map cs))
 
   -- ---- 4. a case followed by anything
-  pub reads-on : (n : ℕ) (cs rest : List ℕ) (q : ℕ) → Asked (sizeAt (sizes t p) i) n → Case (grammarOf t p) i n cs
-      → taken (grammarOf t p) depth i 0 (length cs + q) (cs ++ rest) ≡ read n q rest
-  reads-on n cs rest q k c = rw shifted-none at (back (grammarOf t p) (nodes t) good depth i n (goes k) 0 (inl refl) cs (c .shows) q rest)
+  pub reads-on : (n : ℕ) (cs rest : List ℕ) (q : ℕ) → Asked (sizeAt (sizes t p) i) n → Case (rulesOf t p) i n cs
+      → run (rulesOf t p) depth 0 i (length cs + q) (cs ++ rest) ≡ read n q rest
+  reads-on n cs rest q k c = rw shifted-none at (back (rulesOf t p) (nodes t) good depth i n (goes k) 0 (inl refl) cs (c .shows) q rest)
 
   -- so `read`, which is for a whole case, refuses it
-  pub longer-refused : (n : ℕ) (cs : List ℕ) (c : ℕ) (more : List ℕ) → Asked (sizeAt (sizes t p) i) n → Case (grammarOf t p) i n cs → reads t p i (cs ++ (c ∷ more)) ≡ Refused NotACase 0
+  pub longer-refused : (n : ℕ) (cs : List ℕ) (c : ℕ) (more : List ℕ) → Asked (sizeAt (sizes t p) i) n → Case (rulesOf t p) i n cs → reads t p i (cs ++ (c ∷ more)) ≡ Refused NotACase 0
   longer-refused n cs c more q k =
       let room : length cs + (most - length cs) ≡ most = omega (arith, k .few) in
       reads-is t p a i l (cs ++ (c ∷ more)) ∙ left-over _ (rw room at (reads-on n cs (c ∷ more) (most - length cs) q k))
 
   -- ---- 1. written, then read
-  case-read : (n : ℕ) (cs : List ℕ) → Asked (sizeAt (sizes t p) i) n → Case (grammarOf t p) i n cs → reads t p i cs ≡ Number n
+  case-read : (n : ℕ) (cs : List ℕ) → Asked (sizeAt (sizes t p) i) n → Case (rulesOf t p) i n cs → reads t p i cs ≡ Number n
   case-read n cs q c =
       let room : length cs + (most - length cs) ≡ most = omega (arith, c .few) in
       reads-is t p a i l cs ∙ number-found _ n (most - length cs) (rw (room, append-nil) at (reads-on n cs [] (most - length cs) q c)) (q .small)
 
-  pub written-then-read : (n room k : ℕ) → writes t p i n room ≡ Done k → reads t p i (cells (walk (grammarOf t p) depth i n)) ≡ Number n
+  pub written-then-read : (n room k : ℕ) → writes t p i n room ≡ Done k → reads t p i (cells (walk (rulesOf t p) depth 0 i n)) ≡ Number n
   written-then-read n room k e = case-read n _ (writes-done t p a i l n room k e .0) (case-of n room k e)
 
   -- ---- 3. nothing else is accepted
-  pub only-cases : (n : ℕ) (cs : List ℕ) → reads t p i cs ≡ Number n → Asked (sizeAt (sizes t p) i) n × Case (grammarOf t p) i n cs
+  pub only-cases : (n : ℕ) (cs : List ℕ) → reads t p i cs ≡ Number n → Asked (sizeAt (sizes t p) i) n × Case (rulesOf t p) i n cs
   only-cases n cs e =
       let (q, r, s) = found-number _ n (sym (reads-is t p a i l cs) ∙ e) in
-      let (b, (ws, shows, stands, room)) = only (grammarOf t p) (nodes t) good depth i l 0 most cs (inl refl) r in
+      let (b, (ws, shows, stands, room)) = only (rulesOf t p) (nodes t) good depth i l 0 most cs (inl refl) r in
       let same : ws ≡ cs = sym (stands ∙ rw shifted-none (append-nil ws)) in
-      (record { below = b; small = s }, subst (Case (grammarOf t p) i n) same (record { shows = shows; few = omega arith }))
+      (record { below = b; small = s }, subst (Case (rulesOf t p) i n) same (record { shows = shows; few = omega arith }))
 
   pub one-case : (n : ℕ) (cs ds : List ℕ) → reads t p i cs ≡ Number n → reads t p i ds ≡ Number n → cs ≡ ds
   one-case n cs ds e f =
@@ -91,11 +91,11 @@ module _ (t p : List ℕ) (a : verdict t p ≡ Accepted) (i : ℕ) (l : i < node
 
   -- ---- 2. read, then written
   pub read-then-written : (n room : ℕ) (cs : List ℕ) → reads t p i cs ≡ Number n → length cs ≤ room
-      → (writes t p i n room ≡ Done (length cs)) × (cells (walk (grammarOf t p) depth i n) ≡ cs)
+      → (writes t p i n room ≡ Done (length cs)) × (cells (walk (rulesOf t p) depth 0 i n) ≡ cs)
   read-then-written n room cs e f = let (q, c) = only-cases n cs e in case-written n room cs q c f
 
   pub no-beginning : (m n : ℕ) (cs more : List ℕ) → reads t p i cs ≡ Number m → reads t p i (cs ++ more) ≡ Number n → (more ≡ []) × (m ≡ n)
   no-beginning m n cs more e f =
       let (q, c) = only-cases m cs e in
       let (r, d) = only-cases n (cs ++ more) f in
-      prefix-free (grammarOf t p) (nodes t) good depth i m n (goes q) (goes r) cs (cs ++ more) more (c .shows) (d .shows) refl
+      prefix-free (rulesOf t p) (nodes t) good depth i m n (goes q) (goes r) cs (cs ++ more) more (c .shows) (d .shows) refl

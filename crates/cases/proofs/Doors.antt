@@ -16,10 +16,10 @@ use Rattle.grammar.specs.Sizes.{sizeAt, sizes}
 use Rattle.grammar.specs.Verdict.{verdict}
 use Rattle.grammar.specs.declared.refusal.Refusal.the-variants.{NotACase, NumberTooLarge}
 use Rattle.grammar.specs.declared.refusal.Verdict.the-variants.{Accepted}
-use Rattle.visits.specs.Grammar.{grammarOf}
+use Rattle.grammar.specs.Sizes.{rulesOf}
 use Rattle.walk.specs.Walk.{cell, walk, cells, depth}
 use Rattle.walk.specs.Room.{most}
-use Rattle.visits.specs.Reading.{Read, read, wrong, taken}
+use Rattle.walk.specs.Run.{Read, read, wrong, run}
 use Rattle.checked.specs.Fits.{Asked, roomFor, fitted}
 use Rattle.checked.specs.declared.fits.Fit.{Fit}
 use Rattle.checked.specs.declared.fits.Fit.the-variants.{Cells, Not}
@@ -53,20 +53,20 @@ wrote-done (Cells m) k e = let s : m ≡ k = cc in ap Cells s
 wrote-done (Not r) k e = let z : _≡_ {A = ℕ} 0 1 = cc in absurd (omega arith)
 
 module _ (t p : List ℕ) (a : verdict t p ≡ Accepted) (i : ℕ) (l : i < nodes t) where
-  pub reads-is : (cs : List ℕ) → reads t p i cs ≡ found (taken (grammarOf t p) depth i 0 most cs)
+  pub reads-is : (cs : List ℕ) → reads t p i cs ≡ found (run (rulesOf t p) depth 0 i most cs)
   unfolding reads finds
   reads-is cs = rw (a, lt-ltb i (nodes t) l)
 
-  pub writes-by : (n room : ℕ) → writes t p i n room ≡ wrote (fitted (grammarOf t p) i n room)
+  pub writes-by : (n room : ℕ) → writes t p i n room ≡ wrote (fitted (rulesOf t p) i n room)
   unfolding writes walks
   writes-by n room = rw (a, lt-ltb i (nodes t) l)
 
   -- the cells are few enough, so `write` is done
-  pub writes-is : (n room : ℕ) (cs : List ℕ) → Asked (sizeAt (sizes t p) i) n → walk (grammarOf t p) depth i n ≡ map cell cs → length cs ≤ roomFor room → writes t p i n room ≡ Done (length cs)
-  writes-is n room cs q e k = writes-by n room ∙ ap wrote (fitted-is (grammarOf t p) i n room cs q e k)
+  pub writes-is : (n room : ℕ) (cs : List ℕ) → Asked (sizeAt (sizes t p) i) n → walk (rulesOf t p) depth 0 i n ≡ map cell cs → length cs ≤ roomFor room → writes t p i n room ≡ Done (length cs)
+  writes-is n room cs q e k = writes-by n room ∙ ap wrote (fitted-is (rulesOf t p) i n room cs q e k)
 
   -- `write` is done, so the number may be asked for, and its walk meets cells only
   pub writes-done : (n room k : ℕ) → writes t p i n room ≡ Done k
-      → Asked (sizeAt (sizes t p) i) n × (walk (grammarOf t p) depth i n ≡ map cell (cells (walk (grammarOf t p) depth i n)))
-      × (length (cells (walk (grammarOf t p) depth i n)) ≡ k) × (k ≤ roomFor room)
-  writes-done n room k e = fitted-cells (grammarOf t p) i n room k (wrote-done (fitted (grammarOf t p) i n room) k (sym (writes-by n room) ∙ e))
+      → Asked (sizeAt (sizes t p) i) n × (walk (rulesOf t p) depth 0 i n ≡ map cell (cells (walk (rulesOf t p) depth 0 i n)))
+      × (length (cells (walk (rulesOf t p) depth 0 i n)) ≡ k) × (k ≤ roomFor room)
+  writes-done n room k e = fitted-cells (rulesOf t p) i n room k (wrote-done (fitted (rulesOf t p) i n room) k (sym (writes-by n room) ∙ e))

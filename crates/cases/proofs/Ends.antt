@@ -9,17 +9,17 @@ use Prim.Native.Nat.{ℕ, _<_}
 use Rattle.numbers.specs.Size.{Below}
 use Rattle.graph.specs.Paths.{Decides}
 use Rattle.grammar.specs.Table.{kindOf, aOf, bOf, nodes}
-use Rattle.grammar.specs.Node.{nodeOf, nodeAt}
 use Rattle.grammar.specs.Sizes.{sizeAt, sizes}
 use Rattle.grammar.specs.Steps.{Leads, Step, Unguarded, ExceptOnCycle}
 use Rattle.grammar.specs.Verdict.{leads, verdict}
 use Rattle.grammar.specs.declared.refusal.Verdict.the-variants.{Accepted}
 use Rattle.grammar.proofs.ByKind.{by-kind}
 use Rattle.cycles.proofs.Steps.{step-to}
-use Rattle.visits.specs.Grammar.{Grammar, grammarOf}
+use Rattle.grammar.specs.Rule.{Rule}
+use Rattle.grammar.specs.Sizes.{rulesOf}
 use Rattle.visits.specs.Visit.{visit}
 use Rattle.walk.specs.Walk.{cell, walk, cells}
-use Rattle.visits.specs.Good.{Good}
+use Rattle.grammar.specs.Law.{Good}
 use Rattle.visits.specs.declared.step.Step.{Step as Visited}
 use Rattle.visits.specs.declared.step.Step.the-variants.{Cell, Pass, Plus, Tag, Two}
 use Rattle.walk.proofs.Parts.{Goes, PartsOf, parts-of}
@@ -38,7 +38,7 @@ except-kind kind a b =
     (λ e h. absurd (false≢true h)) (λ e h. absurd (false≢true h)) (λ l h. absurd (false≢true h))
 
 -- each part goes on, and falls
-each-part : (g : Grammar) (count n : ℕ) (F Q : ℕ → ℕ → Type 0) (s : Visited) → PartsOf g count n s → Each F s → ((j m : ℕ) → F j m → Goes g count j m → Q j m) → Each Q s
+each-part : (g : ℕ → Rule) (count n : ℕ) (F Q : ℕ → ℕ → Type 0) (s : Visited) → PartsOf g count n s → Each F s → ((j m : ℕ) → F j m → Goes g count j m → Q j m) → Each Q s
 each-part g count n F Q (Cell c) h f k = tt
 each-part g count n F Q (Pass p m) h f k = k p m f (h .goes)
 each-part g count n F Q (Plus p m j) h f k = k p m f (h .0 .goes)
@@ -46,7 +46,7 @@ each-part g count n F Q (Tag t p m) h f k = k p m f (h .0 .goes)
 each-part g count n F Q (Two p x q y) h f k = (k p x (f .0) (h .0 .goes), k q y (f .1) (h .1 .goes))
 
 module _ (t p : List ℕ) (a : verdict t p ≡ Accepted) where
-  good : Good (grammarOf t p) (nodes t)
+  good : Good (rulesOf t p) (nodes t)
   good = good-of t p (accepted-passes t p a) (accepted-checked t p a)
 
   decides : (guarded : Bool) (x y : ℕ) → Decides (Leads guarded t p (sizeAt (sizes t p)) x y) (leads guarded t p (sizeAt (sizes t p)) x y)
@@ -78,19 +78,19 @@ module _ (t p : List ℕ) (a : verdict t p ≡ Accepted) where
   }
 
   -- ---- the walk
-  goes-on : (i n : ℕ) → ((j m : ℕ) → Falls excepts ahead i n j m → Goes (grammarOf t p) (nodes t) j m → Ended (grammarOf t p) j m)
-      → Goes (grammarOf t p) (nodes t) i n → Ended (grammarOf t p) i n
+  goes-on : (i n : ℕ) → ((j m : ℕ) → Falls excepts ahead i n j m → Goes (rulesOf t p) (nodes t) j m → Ended (rulesOf t p) j m)
+      → Goes (rulesOf t p) (nodes t) i n → Ended (rulesOf t p) i n
   goes-on i n below h =
-      ended-by (grammarOf t p) i n
-      (each-part (grammarOf t p) (nodes t) n (Falls excepts ahead i n) (Ended (grammarOf t p)) (visit (grammarOf t p) i n) (parts-of good h)
-      (falls-of (grammarOf t p) (nodes t) good excepts ahead i n (h .below) (nodeAt t i) (good .fits i (h .node)) (ranked i (h .node))) below)
+      ended-by (rulesOf t p) i n
+      (each-part (rulesOf t p) (nodes t) n (Falls excepts ahead i n) (Ended (rulesOf t p)) (visit (rulesOf t p) i n) (parts-of good h)
+      (falls-of (rulesOf t p) (nodes t) good excepts ahead i n (h .below) (nodeAt t i) (good .fits i (h .node)) (ranked i (h .node))) below)
 
-  ends : (i n : ℕ) → Goes (grammarOf t p) (nodes t) i n → Ended (grammarOf t p) i n
-  ends i n = descend excepts ahead (λ j m. Goes (grammarOf t p) (nodes t) j m → Ended (grammarOf t p) j m) goes-on i n
+  ends : (i n : ℕ) → Goes (rulesOf t p) (nodes t) i n → Ended (rulesOf t p) i n
+  ends i n = descend excepts ahead (λ j m. Goes (rulesOf t p) (nodes t) j m → Ended (rulesOf t p) j m) goes-on i n
 
 -- for every accepted table every number below the size has a case at some depth, with no limit on depth and cells: the published rules never loop
 pub every-number : (t p : List ℕ) → verdict t p ≡ Accepted → (i : ℕ) → i < nodes t → (n : ℕ) → Below n (sizeAt (sizes t p) i)
-    → (d : ℕ) × (cs : List ℕ) × (walk (grammarOf t p) d i n ≡ map cell cs)
+    → (d : ℕ) × (cs : List ℕ) × (walk (rulesOf t p) d 0 i n ≡ map cell cs)
 every-number t p a i l n h =
     let e = ends t p a i n (record { node = l; below = h }) in
-    (e .depth, cells (walk (grammarOf t p) (e .depth) i n), whole-cells (walk (grammarOf t p) (e .depth) i n) (e .whole))
+    (e .depth, cells (walk (rulesOf t p) (e .depth) i n), whole-cells (walk (rulesOf t p) (e .depth) i n) (e .whole))

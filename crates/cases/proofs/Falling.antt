@@ -25,10 +25,11 @@ use Rattle.numbers.proofs.dep.Laws as Deps
 use Rattle.grammar.specs.Node.{Node, below, nats, pool, shift, or, cons, dep, except, fix, again, unknown}
 use Rattle.grammar.specs.Checks.{seconds}
 use Rattle.grammar.specs.Steps.{steps}
-use Rattle.visits.specs.Grammar.{Grammar}
-use Rattle.visits.specs.Visit.{tagged, stepOf}
+use Rattle.grammar.specs.Rule.{Rule}
+use Rattle.visits.specs.Visit.{tagged}
 use Rattle.grammar.specs.kinds.Dep.{secondsOf}
-use Rattle.visits.specs.Good.{Fits, Good}
+use Rattle.visits.specs.Good.{Fits}
+use Rattle.grammar.specs.Law.{Good}
 use Rattle.walk.proofs.Parts.{seconds-some, total-is, firsts-is, dep-least}
 use Rattle.cases.proofs.Descent.{Falls, first, number, second}
 use Rattle.cases.proofs.Wholes.{Each}
@@ -62,18 +63,18 @@ turn-above : (u : Size) (m : ℕ) → Some u → m < turn 1 u m
 turn-above (finite u) m h = pick-by (λ n. m < n) (ltb m u) (λ e. omega arith) (λ e. omega arith)
 turn-above endless m h = omega arith
 
-module _ (g : Grammar) (count : ℕ) (good : Good g count) (R U : ℕ → ℕ) (i n : ℕ) (below-i : Below n (g .size i)) where
-  below-of : {s : Size} → g .size i ≡ s → Below n s
+module _ (g : ℕ → Rule) (count : ℕ) (good : Good g count) (R U : ℕ → ℕ) (i n : ℕ) (below-i : Below n (g i .size)) where
+  below-of : {s : Size} → g i .size ≡ s → Below n s
   below-of e = subst (Below n) e below-i
 
   -- the only part, and the first of more
   head-falls : (m a : ℕ) (xs ys : List ℕ) → m ≤ n → ((j : ℕ) → List·Memᴰ j (a ∷ xs) → R j ≤ R i) → ((j : ℕ) → List·Memᴰ j (a ∷ ys) → U j < U i) → Falls R U i n a m
   head-falls m a xs ys l flat down = second (flat a (List·Memᴰ·head refl)) l (down a (List·Memᴰ·head refl))
 
-  or-falls : (a b : ℕ) → Some (g .size a) → Ranked R U (g .words) (g .size) i (or a b) → (q : Part) → Or.join (g .size a) (g .size b) q ≡ n → Each (Falls R U i n) (tagged a b q)
+  or-falls : (a b : ℕ) → Some (g a .size) → Ranked R U (g .words) (g .size) i (or a b) → (q : Part) → Or.join (g a .size) (g b .size) q ≡ n → Each (Falls R U i n) (tagged a b q)
   unfolding steps Or.join
-  or-falls a b s r (First m) e = head-falls m a (b ∷ []) [] (omega (arith, Ors.turn-least 0 (g .size b) m)) (r .flat) (r .down)
-  or-falls a b s r (Second m) e = number (r .flat b (List·Memᴰ·tail (List·Memᴰ·head refl))) (omega (arith, turn-above (g .size a) m s))
+  or-falls a b s r (First m) e = head-falls m a (b ∷ []) [] (omega (arith, Ors.turn-least 0 (g b .size) m)) (r .flat) (r .down)
+  or-falls a b s r (Second m) e = number (r .flat b (List·Memᴰ·tail (List·Memᴰ·head refl))) (omega (arith, turn-above (g a .size) m s))
 
   pub falls-of : (v : Node) → Fits g count i v → Ranked R U (g .words) (g .size) i v → Each (Falls R U i n) (stepOf (g .size) (g .words) v n)
   unfolding stepOf steps
@@ -81,14 +82,14 @@ module _ (g : Grammar) (count : ℕ) (good : Good g count) (R U : ℕ → ℕ) (
   falls-of nats f r = tt
   falls-of (pool a b) f r = tt
   falls-of (shift a k) f r = head-falls n a [] [] (le-refl n) (r .flat) (r .down)
-  falls-of (or a b) f r = or-falls a b (good .some a (f .0)) r (Or.split (g .size a) (g .size b) n) (Ors.join-split (g .size a) (g .size b) n)
+  falls-of (or a b) f r = or-falls a b (good .some a (f .0)) r (Or.split (g a .size) (g b .size) n) (Ors.join-split (g a .size) (g b .size) n)
   falls-of (cons a b) f r =
-      let q = Cons.split (g .size a) (g .size b) n in
-      let l = rw (Conses.join-split (g .size a) (g .size b) n) at (Conses.join-least (g .size a) (g .size b) (q .first) (q .second) (good .some a (f .0)) (good .some b (f .1))) in
+      let q = Cons.split (g a .size) (g b .size) n in
+      let l = rw (Conses.join-split (g a .size) (g b .size) n) at (Conses.join-least (g a .size) (g b .size) (q .first) (q .second) (good .some a (f .0)) (good .some b (f .1))) in
       let i2 = List·Memᴰ·tail (List·Memᴰ·head refl) in
       (head-falls (q .first) a (b ∷ []) (b ∷ []) (l .0) (r .flat) (r .down), second (r .flat b i2) (l .1) (r .down b i2))
   falls-of (dep a b) f r =
-      let cs = seconds (g .words) b (g .size a) in
+      let cs = seconds (g .words) b (g a .size) in
       let q = Dep.split (secondsOf (g .size) cs) n in
       let k = firsts-is g count good a b (f .0) (f .1) in
       let s = Deps.split-below (secondsOf (g .size) cs) n (rw k (seconds-some g count good a b (f .0) (f .1))) (rw (total-is g count good a b (f .0) (f .1)) (below-of (f .2))) in

@@ -21,10 +21,9 @@ use Rattle.graph.proofs.Marks.{le-or-lt}
 use Rattle.graph.proofs.Lowest.{lowest-256}
 use Rattle.graph.proofs.Ways.{via-decide}
 use Rattle.grammar.specs.Table.{nodes, lengths}
-use Rattle.grammar.specs.Node.{nodeAt}
 use Rattle.grammar.specs.Rows.{sizeFor}
 use Rattle.grammar.specs.Sizes.{Scan, passed, sizeAt, scan, sizes, sizesIn}
-use Rattle.grammar.specs.Sound.{Checked}
+use Rattle.grammar.specs.Checked.{Checked}
 use Rattle.grammar.specs.Steps.{Leads, Unguarded, ExceptOnCycle}
 use Rattle.grammar.specs.Verdict.{leads, unguarded, exceptOnCycle, cycles, settled, verdict}
 use Rattle.grammar.specs.declared.refusal.Refusal.{Refusal}

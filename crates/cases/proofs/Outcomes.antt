@@ -15,7 +15,8 @@ use Rattle.grammar.specs.Table.{nodes}
 use Rattle.grammar.specs.Verdict.{verdict}
 use Rattle.grammar.specs.declared.refusal.Verdict.{Verdict}
 use Rattle.grammar.specs.declared.refusal.Verdict.the-variants.{Accepted, Refused as Refuses}
-use Rattle.visits.specs.Grammar.{Grammar, grammarOf}
+use Rattle.grammar.specs.Rule.{Rule}
+use Rattle.grammar.specs.Sizes.{rulesOf}
 use Rattle.walk.specs.Walk.{Event, walk, cells, depth}
 use Rattle.walk.specs.Filled.{over}
 use Rattle.walk.proofs.Fills.{over-front}
@@ -32,7 +33,7 @@ abbrev Tells : ℕ → List ℕ → Written → Type 0
 Tells room cs (Done count) = (count ≤ room) × (count ≡ length cs)
 Tells room cs (Refused r k) = Unit {0}
 
-fit-tells : (g : Grammar) (i n room : ℕ) (f : Fit) → fitted g i n room ≡ f → Tells room (cells (walk g depth i n)) (wrote f)
+fit-tells : (g : ℕ → Rule) (i n room : ℕ) (f : Fit) → fitted g i n room ≡ f → Tells room (cells (walk g depth 0 i n)) (wrote f)
 fit-tells g i n room (Cells k) e = let (a, s, c, w) = fitted-cells g i n room k e in (omega arith, omega arith)
 fit-tells g i n room (Not r) e = tt
 
@@ -42,29 +43,29 @@ judged-tells room cs (Refuses r k) w h = tt
 
 module _ (t p : List ℕ) (i n room : ℕ) where
   abbrev es : List Event
-  es = walk (grammarOf t p) depth i n
+  es = walk (rulesOf t p) depth 0 i n
 
   walks-tells : Tells room (cells es) (walks t p i n room)
   unfolding walks
-  walks-tells = pick-by (Tells room (cells es)) (ltb i (nodes t)) (λ _. fit-tells (grammarOf t p) i n room (fitted (grammarOf t p) i n room) refl) (λ _. tt)
+  walks-tells = pick-by (Tells room (cells es)) (ltb i (nodes t)) (λ _. fit-tells (rulesOf t p) i n room (fitted (rulesOf t p) i n room) refl) (λ _. tt)
 
   writes-tells : Tells room (cells es) (writes t p i n room)
   unfolding writes
   writes-tells = judged-tells room (cells es) (verdict t p) (walks t p i n room) walks-tells
 
 module _ {t p : List ℕ} {i n : ℕ} {old last : List ℕ} {r : Written} (k : Wrote t p i n old last r) (count : ℕ) (e : r ≡ Done count) where
-  tells : (count ≤ length old) × (count ≡ length (cells (walk (grammarOf t p) depth i n)))
-  tells = subst (Tells (length old) (cells (walk (grammarOf t p) depth i n))) (sym (k .is) ∙ e) (writes-tells t p i n (length old))
+  tells : (count ≤ length old) × (count ≡ length (cells (walk (rulesOf t p) depth 0 i n)))
+  tells = subst (Tells (length old) (cells (walk (rulesOf t p) depth 0 i n))) (sym (k .is) ∙ e) (writes-tells t p i n (length old))
 
   pub written-fits : count ≤ length old
   written-fits = tells .0
 
-  pub written-size : count ≡ length (cells (walk (grammarOf t p) depth i n))
+  pub written-size : count ≡ length (cells (walk (rulesOf t p) depth 0 i n))
   written-size = tells .1
 
-  pub written-cells : take count last ≡ cells (walk (grammarOf t p) depth i n)
+  pub written-cells : take count last ≡ cells (walk (rulesOf t p) depth 0 i n)
   written-cells =
-      let cs = cells (walk (grammarOf t p) depth i n) in
+      let cs = cells (walk (rulesOf t p) depth 0 i n) in
       let holds : last ≡ over cs old = k .holds ∙ ap (λ (w : Written). leaves w cs old) e in
       rw (holds, tells .1) (over-front cs old (omega (arith, tells .0, tells .1)))
 

@@ -11,9 +11,9 @@ use Prim.Native.Nat.{ℕ, zero, suc, _≤_}
 use native.Mathlib.Nat.{not-suc-le-zero, le-of-suc-le-suc}
 use native.Mathlib.Omega.{arith}
 use Rattle.graph.proofs.Marks.{le-or-lt}
-use Rattle.visits.specs.Grammar.{Grammar}
+use Rattle.grammar.specs.Rule.{Rule}
 use Rattle.visits.specs.Visit.{visit}
-use Rattle.walk.specs.Walk.{Event, cell, deep, raised, shown, walk, cells}
+use Rattle.walk.specs.Walk.{Event, cell, deep, shown, walk, cells}
 use Rattle.visits.specs.declared.step.Step.{Step}
 use Rattle.visits.specs.declared.step.Step.the-variants.{Cell, Pass, Plus, Tag, Two}
 
@@ -65,7 +65,7 @@ shown-more part part' f (Tag t p m) w = f p m w
 shown-more part part' f (Two p x q y) w =
     whole-both (part' p x) (part' q y) (f p x (whole-left (part p x) (part q y) w)) (f q y (whole-right (part p x) (part q y) w))
 
-pub deeper : (g : Grammar) (d d' : ℕ) → d ≤ d' → (i n : ℕ) → Whole (walk g d i n) → Whole (walk g d' i n)
+pub deeper : (g : ℕ → Rule) (d d' : ℕ) → d ≤ d' → (i n : ℕ) → Whole (walk g d 0 i n) → Whole (walk g d' i n)
 unfolding walk
 deeper g zero d' l i n w = absurd w
 deeper g (suc d) zero l i n w = absurd (not-suc-le-zero l)
@@ -79,18 +79,18 @@ Each P (Plus p m k) = P p m
 Each P (Tag t p m) = P p m
 Each P (Two p x q y) = P p x × P q y
 
-pub record Ended (g : Grammar) (i n : ℕ) : Type 0 where
+pub record Ended (g : ℕ → Rule) (i n : ℕ) : Type 0 where
   pub depth : ℕ
-  pub whole : Whole (walk g depth i n)
+  pub whole : Whole (walk g depth 0 i n)
 
 -- two walks, at the greater of their depths
-both-ended : (g : Grammar) (p x q y : ℕ) → Ended g p x → Ended g q y → (d : ℕ) × Whole (walk g d p x ++ walk g d q y)
+both-ended : (g : ℕ → Rule) (p x q y : ℕ) → Ended g p x → Ended g q y → (d : ℕ) × Whole (walk g d 0 p x ++ walk g d 0 q y)
 both-ended g p x q y a b =
     ⊎-elim (λ l. (b .depth, whole-both (walk g (b .depth) p x) (walk g (b .depth) q y) (deeper g (a .depth) (b .depth) l p x (a .whole)) (b .whole)))
     (λ l. (a .depth, whole-both (walk g (a .depth) p x) (walk g (a .depth) q y) (a .whole) (deeper g (b .depth) (a .depth) (omega arith) q y (b .whole))))
     (le-or-lt (a .depth) (b .depth))
 
-shown-ended : (g : Grammar) (s : Step) → Each (Ended g) s → (d : ℕ) × Whole (shown (walk g d) s)
+shown-ended : (g : ℕ → Rule) (s : Step) → Each (Ended g) s → (d : ℕ) × Whole (shown (walk g d) s)
 unfolding shown
 shown-ended g (Cell c) e = (0, tt)
 shown-ended g (Pass p m) e = (e .depth, e .whole)
@@ -98,6 +98,6 @@ shown-ended g (Plus p m k) e = (e .depth, whole-raised k (walk g (e .depth) p m)
 shown-ended g (Tag t p m) e = (e .depth, e .whole)
 shown-ended g (Two p x q y) e = both-ended g p x q y (e .0) (e .1)
 
-pub ended-by : (g : Grammar) (i n : ℕ) → Each (Ended g) (visit g i n) → Ended g i n
+pub ended-by : (g : ℕ → Rule) (i n : ℕ) → Each (Ended g) (visit g i n) → Ended g i n
 unfolding walk
 ended-by g i n e = let s = shown-ended g (visit g i n) e in record { depth = suc (s .0); whole = s .1 }

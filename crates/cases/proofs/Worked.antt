@@ -8,7 +8,6 @@ use Rattle.numbers.specs.Size.{plus, times, less}
 use Rattle.graph.specs.Ways.{has, via}
 use Rattle.graph.specs.Lowest.{lowest}
 use Rattle.grammar.specs.Refusals.{numberOf}
-use Rattle.grammar.specs.Node.{nodeOf, usesA, usesB}
 use Rattle.grammar.specs.Checks.{row, different, every, total}
 use Rattle.grammar.specs.Rows.{belowRow, natsRow, poolRow, shiftRow, orRow, consRow, secondsRow, further, depRow, exceptRow, fixRow, againRow, rowOf, rowAt}
 use Rattle.grammar.specs.Sizes.{onward, scan}

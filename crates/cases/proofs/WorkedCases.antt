@@ -14,19 +14,17 @@ use Rattle.numbers.specs.Except
 use Rattle.graph.specs.Ways.{has, via}
 use Rattle.graph.specs.Lowest.{lowest}
 use Rattle.grammar.specs.Refusals.{numberOf}
-use Rattle.grammar.specs.Node.{nodeOf, usesA, usesB}
 use Rattle.grammar.specs.Checks.{row, different, every, total}
 use Rattle.grammar.specs.Rows.{belowRow, natsRow, poolRow, shiftRow, orRow, consRow, secondsRow, further, depRow, exceptRow, fixRow, againRow, rowOf, rowAt}
 use Rattle.grammar.specs.Sizes.{onward, scan, sizes}
 use Rattle.grammar.specs.Steps.{steps}
 use Rattle.grammar.specs.Verdict.{leads, unguarded, exceptOnCycle, cycles, settled, verdict}
-use Rattle.visits.specs.Grammar.{grammarOf}
-use Rattle.visits.specs.Visit.{stepOf}
+use Rattle.grammar.specs.Sizes.{rulesOf}
 use Rattle.grammar.specs.kinds.Dep.{secondsOf}
-use Rattle.walk.specs.Walk.{raised, shown, walk, depth}
+use Rattle.walk.specs.Walk.{shown, walk, depth}
 use Rattle.walk.specs.Walk
 use Rattle.walk.specs.Room.{tallied}
-use Rattle.visits.specs.Reading.{cellOf, ahead, become, follow, taken}
+use Rattle.walk.specs.Run.{cellOf, follow, run}
 use Rattle.grammar.specs.kinds.Pool.{placeOf}
 use Rattle.checked.specs.Fits.{fitted}
 use Rattle.cases.specs.Write.{walks, writes, WriteAnswer, written}
@@ -50,7 +48,7 @@ count [] = 0
 count (c ∷ cs) = count cs + 1
 
 unfoldable pub asked : Worked → List ℕ
-asked (writes-as t p i n cs) = writing (written (writes t p i n 65536)) (Walk.cells (walk (grammarOf t p) depth i n))
+asked (writes-as t p i n cs) = writing (written (writes t p i n 65536)) (Walk.cells (walk (rulesOf t p) depth 0 i n))
 asked (reads-as t p i cs r n) = reading (readOf (reads t p i cs))
 
 unfoldable pub expected : Worked → List ℕ

@@ -13,10 +13,10 @@ use Rattle.grammar.specs.Verdict.{verdict}
 use Rattle.grammar.specs.declared.refusal.Refusal.the-variants.{NoSuchStart, NotACase, NumberTooLarge}
 use Rattle.grammar.specs.declared.refusal.Verdict.{Verdict}
 use Rattle.grammar.specs.declared.refusal.Verdict.the-variants.{Accepted, Refused as Refuses}
-use Rattle.visits.specs.Grammar.{grammarOf}
+use Rattle.grammar.specs.Sizes.{rulesOf}
 use Rattle.walk.specs.Walk.{depth}
 use Rattle.walk.specs.Room.{most}
-use Rattle.visits.specs.Reading.{Read, read, wrong, taken}
+use Rattle.walk.specs.Run.{Read, read, wrong, run}
 use Rattle.cases.specs.declared.reading.Found.{Found}
 use Rattle.cases.specs.declared.reading.Found.the-variants.{Number, Refused}
 
@@ -32,7 +32,7 @@ judged (Refuses r k) f = Refused r k
 
 -- 11, then the walk
 unfoldable pub finds : List ℕ → List ℕ → ℕ → List ℕ → Found
-finds t p i cs = pick (ltb i (nodes t)) (found (taken (grammarOf t p) depth i 0 most cs)) (Refused NoSuchStart 0)
+finds t p i cs = pick (ltb i (nodes t)) (found (run (rulesOf t p) depth 0 i most cs)) (Refused NoSuchStart 0)
 
 unfoldable pub reads : List ℕ → List ℕ → ℕ → List ℕ → Found
 reads t p i cs = judged (verdict t p) (finds t p i cs)

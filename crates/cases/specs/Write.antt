@@ -18,7 +18,8 @@ use Rattle.grammar.specs.declared.refusal.Refusal.{Refusal}
 use Rattle.grammar.specs.declared.refusal.Refusal.the-variants.{NoSuchStart}
 use Rattle.grammar.specs.declared.refusal.Verdict.{Verdict}
 use Rattle.grammar.specs.declared.refusal.Verdict.the-variants.{Accepted, Refused as Refuses}
-use Rattle.visits.specs.Grammar.{Grammar, grammarOf}
+use Rattle.grammar.specs.Rule.{Rule}
+use Rattle.grammar.specs.Sizes.{rulesOf}
 use Rattle.walk.specs.Walk.{walk, cells, depth}
 use Rattle.walk.specs.Filled.{over}
 use Rattle.checked.specs.Fits.{asked, fitted}
@@ -37,7 +38,7 @@ judged (Refuses r k) w = Refused r k
 
 -- 11, then 12, then the walk
 unfoldable pub walks : List ℕ → List ℕ → ℕ → ℕ → ℕ → Written
-walks t p i n room = pick (ltb i (nodes t)) (wrote (fitted (grammarOf t p) i n room)) (Refused NoSuchStart 0)
+walks t p i n room = pick (ltb i (nodes t)) (wrote (fitted (rulesOf t p) i n room)) (Refused NoSuchStart 0)
 
 unfoldable pub writes : List ℕ → List ℕ → ℕ → ℕ → ℕ → Written
 writes t p i n room = judged (verdict t p) (walks t p i n room)
@@ -49,21 +50,21 @@ leaves (Refused r k) cs old = old
 
 pub record Wrote (t p : List ℕ) (i n : ℕ) (old last : List ℕ) (r : Written) : Type 0 where
   pub is : r ≡ writes t p i n (length old)
-  pub holds : last ≡ leaves r (cells (walk (grammarOf t p) depth i n)) old
+  pub holds : last ≡ leaves r (cells (walk (rulesOf t p) depth 0 i n)) old
 
 -- a number that may be refused by 12 alone, since 13 and 14 are decided before anything is written
-abbrev pub Settled : Grammar → ℕ → ℕ → ℕ → Type 0
-Settled g i n room = (r : Refusal) → fitted g i n room ≡ Not r → asked (g .size i) n ≡ false
+abbrev pub Settled : (ℕ → Rule) → ℕ → ℕ → ℕ → Type 0
+Settled g i n room = (r : Refusal) → fitted g i n room ≡ Not r → asked (g i .size) n ≡ false
 
 -- of a grammar and a node of it
-pub record WroteCase (g : Grammar) (i n : ℕ) (old last : List ℕ) (r : Written) : Type 0 where
+pub record WroteCase (g : ℕ → Rule) (i n : ℕ) (old last : List ℕ) (r : Written) : Type 0 where
   pub is : r ≡ wrote (fitted g i n (length old))
-  pub holds : last ≡ leaves r (cells (walk g depth i n)) old
+  pub holds : last ≡ leaves r (cells (walk g depth 0 i n)) old
 
 -- of an accepted table
 pub record WrotePlanned (t p : List ℕ) (i n : ℕ) (old last : List ℕ) (r : Written) : Type 0 where
   pub is : r ≡ walks t p i n (length old)
-  pub holds : last ≡ leaves r (cells (walk (grammarOf t p) depth i n)) old
+  pub holds : last ≡ leaves r (cells (walk (rulesOf t p) depth 0 i n)) old
 
 -- "A refusal returns its number, a node for 1 to 10 (0 for every other refusal), and 0 for all counts"
 pub record WriteAnswer : Type 0 where

@@ -1,7 +1,7 @@
 // From cells to the number.
 ghost use mathlib.Core.Path.{_≡_};
 ghost use Prim.Native.Nat.{ℕ, _^_, _≤_};
-ghost use Rattle.visits.specs.Reading.{Read};
+ghost use Rattle.walk.specs.Run.{Read};
 ghost use Rattle.walk.specs.Room.{most};
 ghost use Rattle.visits.specs.Got.{Took};
 ghost use Rattle.checked.specs.Prepared.{Blank, Planning};

@@ -1,7 +1,8 @@
 // From a number to cells.
 ghost use lib.ListN.{length};
-ghost use Rattle.visits.specs.Grammar.{planned};
-ghost use Rattle.checked.specs.Prepared.{Blank, Planning, Stands};
+ghost use Rattle.grammar.specs.Plan.{ruleIn};
+ghost use Rattle.checked.specs.Prepared.{Blank, Planning};
+ghost use Rattle.walk.specs.Plan.{Reading};
 ghost use Rattle.cases.specs.Write.{Settled, Wrote, WroteCase, WrotePlanned};
 use checked::decided::decided;
 use checked::fits::Fit;
@@ -29,9 +30,9 @@ fn write_settled(
     number: u64,
     cells: &mut [u64],
 ) -> Written
-    requires { ⌜ Stands (now plan) (now pool) start ⌝ }
-    requires { ⌜ Settled (planned (now plan) (now pool)) start number (length (now cells)) ⌝ }
-    ensures { λ r. ⌜ WroteCase (planned (now (plan .entry)) (now (pool .entry))) start number (now (cells .entry)) (now (cells .exit)) r ⌝ }
+    requires { ⌜ Reading (now plan) (now pool) start ⌝ }
+    requires { ⌜ Settled (ruleIn (now plan) (now pool)) start number (length (now cells)) ⌝ }
+    ensures { λ r. ⌜ WroteCase (ruleIn (now (plan .entry)) (now (pool .entry))) start number (now (cells .entry)) (now (cells .exit)) r ⌝ }
 {
     match fits(plan, pool, start, number, cells.len(), cells) {
         Fit::Cells(k) => Written::Done(k),

@@ -14,7 +14,7 @@ use borrow.Author.Tests.{lt-ltb}
 use Rattle.numbers.specs.Pick.{pick}
 use Rattle.numbers.specs.Size.{Size, finite, endless}
 use Rattle.grammar.specs.declared.refusal.Refusal.the-variants.{NoSuchNumber}
-use Rattle.visits.specs.Grammar.{Grammar}
+use Rattle.grammar.specs.Rule.{Rule}
 use Rattle.walk.specs.Walk.{Event, cell, deep, walk, cells, depth}
 use Rattle.walk.specs.Room.{Left, tallied}
 use Rattle.checked.specs.Fits.{asked, Asked, roomFor, outcome, fitted}
@@ -45,22 +45,22 @@ tallied-left room (deep ∷ es) e = let z : _≡_ {A = ℕ} 0 1 = cc in absurd (
 tallied-left zero (cell c ∷ es) e = let z : _≡_ {A = ℕ} 0 1 = cc in absurd (omega arith)
 tallied-left (suc room) (cell c ∷ es) e = ap (λ (l : List Event). cell c ∷ l) (tallied-left room es e)
 
-module _ (g : Grammar) (i n room : ℕ) where
-  pub fitted-is : (cs : List ℕ) → Asked (g .size i) n → walk g depth i n ≡ map cell cs → length cs ≤ roomFor room → fitted g i n room ≡ Cells (length cs)
+module _ (g : ℕ → Rule) (i n room : ℕ) where
+  pub fitted-is : (cs : List ℕ) → Asked (g i .size) n → walk g depth 0 i n ≡ map cell cs → length cs ≤ roomFor room → fitted g i n room ≡ Cells (length cs)
   unfolding fitted
   fitted-is cs q e k =
       let s : roomFor room - (roomFor room - length cs) ≡ length cs = omega arith in
-      rw (is-asked (g .size i) n q, e, tallied-map (roomFor room) cs k, s)
+      rw (is-asked (g i .size) n q, e, tallied-map (roomFor room) cs k, s)
 
   pub fitted-cells : (k : ℕ) → fitted g i n room ≡ Cells k
-      → Asked (g .size i) n × (walk g depth i n ≡ map cell (cells (walk g depth i n))) × (length (cells (walk g depth i n)) ≡ k) × (k ≤ roomFor room)
+      → Asked (g i .size) n × (walk g depth 0 i n ≡ map cell (cells (walk g depth 0 i n))) × (length (cells (walk g depth 0 i n)) ≡ k) × (k ≤ roomFor room)
   unfolding fitted
-  fitted-cells k e = by (asked (g .size i) n) refl e
+  fitted-cells k e = by (asked (g i .size) n) refl e
     where
-      by : (b : Bool) → asked (g .size i) n ≡ b → pick b (outcome (roomFor room) (tallied (roomFor room) (walk g depth i n))) (Not NoSuchNumber) ≡ Cells k
-          → Asked (g .size i) n × (walk g depth i n ≡ map cell (cells (walk g depth i n))) × (length (cells (walk g depth i n)) ≡ k) × (k ≤ roomFor room)
+      by : (b : Bool) → asked (g i .size) n ≡ b → pick b (outcome (roomFor room) (tallied (roomFor room) (walk g depth 0 i n))) (Not NoSuchNumber) ≡ Cells k
+          → Asked (g i .size) n × (walk g depth 0 i n ≡ map cell (cells (walk g depth 0 i n))) × (length (cells (walk g depth 0 i n)) ≡ k) × (k ≤ roomFor room)
       by true u v =
-          let (rest, f, s) = cells-left (roomFor room) k (tallied (roomFor room) (walk g depth i n)) v in
-          let c = tally-count (roomFor room) (walk g depth i n) f in
-          (was-asked (g .size i) n u, tallied-left (roomFor room) (walk g depth i n) f, omega arith, omega arith)
+          let (rest, f, s) = cells-left (roomFor room) k (tallied (roomFor room) (walk g depth 0 i n)) v in
+          let c = tally-count (roomFor room) (walk g depth 0 i n) f in
+          (was-asked (g i .size) n u, tallied-left (roomFor room) (walk g depth 0 i n) f, omega arith, omega arith)
       by false u v = let z : _≡_ {A = ℕ} 0 1 = cc in absurd (omega arith)

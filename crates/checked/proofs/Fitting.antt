@@ -17,14 +17,14 @@ use Rattle.numbers.specs.Size.{Size, finite, endless, sizeOf, below}
 use Rattle.numbers.proofs.size.Laws.{by-size}
 use Rattle.grammar.specs.declared.refusal.Refusal.the-variants.{NoSuchNumber, TooDeep, NoRoom}
 use Rattle.grammar.proofs.Tests.{and-left, and-right}
-use Rattle.visits.specs.Grammar.{planned}
+use Rattle.grammar.specs.Plan.{ruleIn}
 use Rattle.walk.specs.Walk.{Event, walk, depth}
 use Rattle.walk.specs.Room.{RoomLeft, Left, tallied}
 use Rattle.walk.specs.Room.{TooDeep as Deep, NoRoom as Full}
 use Rattle.walk.specs.Laid.{leftOf, Laid}
 use Rattle.walk.proofs.Lays.{word-left, tally-count}
-use Rattle.visits.specs.Good.{Visits}
-use Rattle.checked.specs.Prepared.{Stands}
+use Rattle.walk.specs.Plan.{Visits}
+use Rattle.walk.specs.Plan.{Reading}
 use Rattle.checked.specs.Fits.{asked, Asked, roomFor, outcome, fitted, FitOver}
 use Rattle.checked.specs.declared.fits.Fit.{Fit}
 use Rattle.checked.specs.declared.fits.Fit.the-variants.{Cells, Not}
@@ -69,32 +69,32 @@ cells-left room k Full e = let z : _≡_ {A = ℕ} 0 1 = cc in absurd (omega ari
 pub left-within : (room : ℕ) (es : List Event) (w : ℕ) → leftOf w ≡ tallied room es → w < 2 ^ 63 → w ≤ room
 left-within room es w e q = omega (arith, tally-count room es (sym e ∙ word-left w q))
 
-module _ {plan p : List ℕ} {i : ℕ} (h : Stands plan p i) (n room : ℕ) {b : Bool} (a : b ≡ asked (sizeOf (getD plan (4 * i + 3) 0)) n) where
+module _ {plan p : List ℕ} {i : ℕ} (h : Reading plan p i) (n room : ℕ) {b : Bool} (a : b ≡ asked (sizeOf (getD plan (4 * i + 3) 0)) n) where
   -- ---- refused before the walk: the buffer is as it was
-  pub decided-12 : b ≡ false → Not NoSuchNumber ≡ fitted (planned plan p) i n room
+  pub decided-12 : b ≡ false → Not NoSuchNumber ≡ fitted (ruleIn plan p) i n room
   unfolding fitted
   decided-12 e = rw (← a, e)
 
-  pub fits-12 : {old : List ℕ} → b ≡ false → FitOver (planned plan p) i n room old old (Not NoSuchNumber)
+  pub fits-12 : {old : List ℕ} → b ≡ false → FitOver (ruleIn plan p) i n room old old (Not NoSuchNumber)
   fits-12 e = record { is = decided-12 e; long = refl; holds = λ k q. let z : _≡_ {A = ℕ} 0 1 = cc in absurd (omega arith); kept = λ _. refl }
 
   -- ---- by what the walk met
   module _ (yes : b ≡ true) where
-    is-so : asked (planned plan p .size i) n ≡ true
+    is-so : asked (ruleIn plan p i .size) n ≡ true
     is-so = sym a ∙ yes
 
-    pub may : Asked (planned plan p .size i) n
-    may = was-asked (planned plan p .size i) n is-so
+    pub may : Asked (ruleIn plan p i .size) n
+    may = was-asked (ruleIn plan p i .size) n is-so
 
     pub visits-of : Visits plan p i n
     visits-of = record { walks = h .walks; node = h .node; below = may .below }
 
     module _ {most : ℕ} (w : ℕ) {f : Fit} (m : most ≡ roomFor room) (e : f ≡ outcome most (leftOf w)) where
-      pub decided-walk : leftOf w ≡ tallied most (walk (planned plan p) depth i n) → f ≡ fitted (planned plan p) i n room
+      pub decided-walk : leftOf w ≡ tallied most (walk (ruleIn plan p) depth 0 i n) → f ≡ fitted (ruleIn plan p) i n room
       unfolding fitted
       decided-walk l = e ∙ rw (is-so, l, m)
 
-      pub fits-walk : {old last : List ℕ} → Laid most (walk (planned plan p) depth i n) old last (leftOf w) → FitOver (planned plan p) i n room old last f
+      pub fits-walk : {old last : List ℕ} → Laid most (walk (ruleIn plan p) depth 0 i n) old last (leftOf w) → FitOver (ruleIn plan p) i n room old last f
       fits-walk l = record {
         is = decided-walk (l .is);
         long = l .long;

@@ -13,7 +13,7 @@ use borrow.Author.Tests.{eq-eqb, le-leb}
 use Rattle.numbers.specs.Size.{Size}
 use Rattle.grammar.specs.Table.{nodes, lengths}
 use Rattle.grammar.specs.Sizes.{sizeAt, scan, passed, sizes}
-use Rattle.grammar.specs.Sound.{Checked}
+use Rattle.grammar.specs.Checked.{Checked}
 use Rattle.grammar.specs.Plan.{sizeIn, Planned, WeighedBy, AllWeighed, Ready}
 use Rattle.grammar.specs.Verdict.{cycles, settled, verdict}
 use Rattle.grammar.specs.declared.refusal.Refusal.{Refusal}

@@ -17,18 +17,24 @@ use borrow.Author.Tests.{eqb-true, eqb-false, ltb-true, lt-ltb}
 use Rattle.numbers.specs.Size.{Size, finite, endless, plus, times, less, Below, Some}
 use Rattle.graph.proofs.Marks.{le-or-lt}
 use Rattle.grammar.specs.Table.{kindOf, aOf, bOf, nodes}
-use Rattle.grammar.specs.Node.{Node, below, nats, pool, shift, or, cons, dep, except, fix, again, unknown, nodeOf, nodeAt}
+use Rattle.grammar.specs.Node.{Node, below, nats, pool, shift, or, cons, dep, except, fix, again, unknown}
 use Rattle.grammar.specs.Checks.{every, isEndless, isOne, few, seconds, total, allLower}
 use Rattle.grammar.specs.Rows.{sizeFor}
 use Rattle.grammar.specs.Checks.{count as countOf}
 use Rattle.grammar.specs.Sizes.{sizeAt, scan, passed, sizes}
-use Rattle.grammar.specs.Sound.{Sound, Checked}
+use Rattle.grammar.specs.Sound.{Sound}
+use Rattle.grammar.specs.Checked.{Checked}
 use Rattle.grammar.proofs.Scan.{scan-size}
 use Rattle.grammar.proofs.Plans.{plan-sizes}
 use Rattle.grammar.proofs.Tests.{and-left, and-right}
-use Rattle.visits.specs.Grammar.{grammarOf, nodeIn, planned}
-use Rattle.visits.specs.Good.{Single, Fits, Good, Walkable}
-use Rattle.checked.specs.Prepared.{Planning, Stands}
+use Rattle.visits.specs.Grammar.{nodeIn}
+use Rattle.grammar.specs.Sizes.{rulesOf}
+use Rattle.grammar.specs.Plan.{ruleIn}
+use Rattle.visits.specs.Good.{Single, Fits}
+use Rattle.grammar.specs.Law.{Good}
+use Rattle.walk.specs.Plan.{Walkable}
+use Rattle.checked.specs.Prepared.{Planning}
+use Rattle.walk.specs.Plan.{Reading}
 
 -- ---- the plan's grammar
 module _ {t p plan : List ℕ} (h : Planning t p plan) where
@@ -47,7 +53,7 @@ module _ {t p plan : List ℕ} (h : Planning t p plan) where
           let m : bOf t k ≡ 0 = List·getD-eq-default t 0 (omega arith) in
           rw (x, y, z, i, j, m)
 
-  pub same-grammar : planned plan p ≡ grammarOf t p
+  pub same-grammar : ruleIn plan p ≡ rulesOf t p
   same-grammar = rw (fun-ext same-node, fun-ext (plan-sizes (h .plans)))
 
 -- ---- no size is 0
@@ -126,7 +132,7 @@ module _ (t p : List ℕ) (pass : scan t p (nodes t) ≡ passed (sizes t p)) (c 
   lower-more n m (x ∷ cs) l e =
       rw (lt-ltb x m (omega (arith, ltb-true x n (and-left (ltb x n) (every (λ k. ltb k n) cs) e))), lower-more n m cs l (and-right (ltb x n) (every (λ k. ltb k n) cs) e))
 
-  fits-of : (n : ℕ) → n < nodes t → (v : Node) → Sound t p (sizeAt (sizes t p)) n v → sizeAt (sizes t p) n ≡ sizeFor p (sizeAt (sizes t p)) v → Fits (grammarOf t p) (nodes t) n v
+  fits-of : (n : ℕ) → n < nodes t → (v : Node) → Sound t p (sizeAt (sizes t p)) n v → sizeAt (sizes t p) n ≡ sizeFor p (sizeAt (sizes t p)) v → Fits (rulesOf t p) (nodes t) n v
   unfolding sizeFor
   fits-of n l (below a) d e = (e, d .1)
   fits-of n l nats d e = e
@@ -140,12 +146,12 @@ module _ (t p : List ℕ) (pass : scan t p (nodes t) ≡ passed (sizes t p)) (c 
   fits-of n l (again a) d e = (d .1, fix-size a (d .1) (d .2), e)
   fits-of n l unknown d e = absurd d
 
-  pub good-of : Good (grammarOf t p) (nodes t)
+  pub good-of : Good (rulesOf t p) (nodes t)
   good-of = record { fits = λ n l. fits-of n l (nodeAt t n) (c .sound n l) (scan-size t p pass n l); some = sizes-some }
 
 abbrev pub walkable : {t p plan : List ℕ} → Planning t p plan → Walkable plan p
 walkable {t} {p} {plan} h = record { count = nodes t; long = h .plans .long; good = rw (same-grammar h) (good-of t p (h .passes) (h .checked)) }
 
 -- a start that is in the table may be walked from
-abbrev pub stands-at : {t p plan : List ℕ} → Planning t p plan → {i : ℕ} → i < nodes t → Stands plan p i
+abbrev pub stands-at : {t p plan : List ℕ} → Planning t p plan → {i : ℕ} → i < nodes t → Reading plan p i
 stands-at h l = record { walks = walkable h; node = l }

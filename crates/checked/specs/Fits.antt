@@ -14,7 +14,7 @@ use lib.ListN.{length}
 use Rattle.numbers.specs.Pick.{pick}
 use Rattle.numbers.specs.Size.{Size, below, Below}
 use Rattle.grammar.specs.declared.refusal.Refusal.the-variants.{NoSuchNumber, TooDeep, NoRoom}
-use Rattle.visits.specs.Grammar.{Grammar}
+use Rattle.grammar.specs.Rule.{Rule}
 use Rattle.walk.specs.Walk.{walk, cells, depth}
 use Rattle.walk.specs.Filled.{over}
 use Rattle.walk.specs.Room.{RoomLeft, Left, tallied, most}
@@ -33,8 +33,8 @@ pub record Asked (s : Size) (n : ℕ) : Type 0 where
 abbrev pub roomFor : ℕ → ℕ
 roomFor room = min room most
 
-abbrev pub caseCells : Grammar → ℕ → ℕ → List ℕ
-caseCells g i n = cells (walk g depth i n)
+abbrev pub caseCells : (ℕ → Rule) → ℕ → ℕ → List ℕ
+caseCells g i n = cells (walk g depth 0 i n)
 
 -- what is left of the room says how many cells there are
 abbrev pub outcome : ℕ → RoomLeft → Fit
@@ -42,12 +42,12 @@ outcome room (Left rest) = Cells (room - rest)
 outcome room Deep = Not TooDeep
 outcome room Full = Not NoRoom
 
-unfoldable pub fitted : Grammar → ℕ → ℕ → ℕ → Fit
-fitted g i n room = pick (asked (g .size i) n) (outcome (roomFor room) (tallied (roomFor room) (walk g depth i n))) (Not NoSuchNumber)
+unfoldable pub fitted : (ℕ → Rule) → ℕ → ℕ → ℕ → Fit
+fitted g i n room = pick (asked (g i .size) n) (outcome (roomFor room) (tallied (roomFor room) (walk g depth 0 i n))) (Not NoSuchNumber)
 
--- a case that fits is over the buffer's front, as far as that goes; after 12 the buffer is as it was
-pub record FitOver (g : Grammar) (i n room : ℕ) (old last : List ℕ) (r : Fit) : Type 0 where
-  pub is : r ≡ fitted g i n room
+-- a case that fits is over the buffer's front; after 12 the buffer is as it was
+pub record FitOver (g : ℕ → Rule) (i n : ℕ) (old last : List ℕ) (r : Fit) : Type 0 where
+  pub is : r ≡ fitted g i n (length old)
   pub long : length last ≡ length old
   pub holds : (k : ℕ) → r ≡ Cells k → last ≡ over (caseCells g i n) old
-  pub kept : asked (g .size i) n ≡ false → last ≡ old
+  pub kept : asked (g i .size) n ≡ false → last ≡ old

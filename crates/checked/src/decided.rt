@@ -1,7 +1,7 @@
 // The first pass of a call decides on one number, and is lent no cell that it could write.
 ghost use mathlib.Core.Path.{_≡_};
-ghost use Rattle.visits.specs.Grammar.{planned};
-ghost use Rattle.checked.specs.Prepared.{Stands};
+ghost use Rattle.grammar.specs.Plan.{ruleIn};
+ghost use Rattle.walk.specs.Plan.{Reading};
 ghost use Rattle.checked.specs.Fits.{fitted};
 use super::fits::DEPTH;
 use super::fits::Fit;
@@ -13,12 +13,12 @@ use walk::tally::tally;
 
 // "12, then the walk with the room left"
 pub fn decided(plan: &[u64], pool: &[u64], start: usize, number: u64, room: usize) -> Fit
-    requires { ⌜ Stands (now plan) (now pool) start ⌝ }
-    ensures { λ r. ⌜ r ≡ fitted (planned (now (plan .entry)) (now (pool .entry))) start number room ⌝ }
+    requires { ⌜ Reading (now plan) (now pool) start ⌝ }
+    ensures { λ r. ⌜ r ≡ fitted (ruleIn (now (plan .entry)) (now (pool .entry))) start number room ⌝ }
 {
     if asked(plan[4 * start + 3], number) {
         let most = room_for(room);
-        return fit_of(most, tally(plan, pool, start, number, DEPTH, most));
+        return fit_of(most, tally(&plan, &pool, start, number, DEPTH, most));
     }
     Fit::Not(Refusal::NoSuchNumber)
 }

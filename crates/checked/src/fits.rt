@@ -2,15 +2,15 @@
 ghost use mathlib.Core.Path.{_≡_};
 ghost use Prim.Native.Nat.{_^_, _<_, _≤_};
 ghost use Rattle.numbers.specs.Size.{sizeOf};
-ghost use Rattle.visits.specs.Grammar.{planned};
+ghost use Rattle.grammar.specs.Plan.{ruleIn};
 ghost use Rattle.walk.specs.Laid.{leftOf};
-ghost use Rattle.checked.specs.Prepared.{Stands};
+ghost use Rattle.walk.specs.Plan.{Reading};
 ghost use Rattle.checked.specs.Fits.{roomFor, outcome, FitOver};
 ghost use Rattle.checked.specs.Fits.{asked as isAsked};
 use grammar::refusal::Refusal;
 use numbers::size::LARGEST;
-use walk::lay::TOO_DEEP;
 use walk::lay::lay;
+use walk::tally::TOO_DEEP;
 
 // "Depth is at most 200. A case has at most 65,536 cells"
 pub const DEPTH: usize = 200;
@@ -54,21 +54,15 @@ pub fn fit_of(most: usize, rest: usize) -> Fit
     Fit::Not(Refusal::NoRoom)
 }
 
-// It decides as the first pass does, and writes as much of the case as the lent buffer holds.
-pub fn fits(
-    plan: &[u64],
-    pool: &[u64],
-    start: usize,
-    number: u64,
-    room: usize,
-    out: &mut [u64],
-) -> Fit
-    requires { ⌜ Stands (now plan) (now pool) start ⌝ }
-    ensures { λ r. ⌜ FitOver (planned (now (plan .entry)) (now (pool .entry))) start number room (now (out .entry)) (now (out .exit)) r ⌝ }
+// It decides as the first pass does by the buffer's length, and writes what fits.
+pub fn fits(plan: &[u64], pool: &[u64], start: usize, number: u64, out: &mut [u64]) -> Fit
+    requires { ⌜ Reading (now plan) (now pool) start ⌝ }
+    ensures { λ r. ⌜ FitOver (ruleIn (now (plan .entry)) (now (pool .entry))) start number (now (out .entry)) (now (out .exit)) r ⌝ }
 {
     if asked(plan[4 * start + 3], number) {
-        let most = room_for(room);
-        return fit_of(most, lay(plan, pool, start, number, DEPTH, most, out));
+        let most = room_for(out.len());
+        let rest = lay(&plan, &pool, start, number, 0, DEPTH, &mut out[..most]);
+        return fit_of(most, rest);
     }
     Fit::Not(Refusal::NoSuchNumber)
 }

@@ -19,7 +19,7 @@ use Rattle.grammar.specs.Verdict.{verdict}
 use Rattle.grammar.specs.declared.refusal.Refusal.the-variants.{NoSuchStart}
 use Rattle.grammar.specs.declared.refusal.Verdict.{Verdict}
 use Rattle.grammar.specs.declared.refusal.Verdict.the-variants.{Accepted, Refused}
-use Rattle.visits.specs.Grammar.{grammarOf}
+use Rattle.grammar.specs.Sizes.{rulesOf}
 use Rattle.walk.specs.Walk.{walk, cells, depth}
 use Rattle.lines.specs.Line.{stored}
 use Rattle.cases.specs.Write.{writes}
@@ -52,7 +52,7 @@ caseBy n cs (Done count) = caseText n cs
 caseBy n cs (Refuses r k) = caseRefusedText n r
 
 unfoldable pub caseLine : List ℕ → List ℕ → ℕ → ℕ → List ℕ
-caseLine t p i n = caseBy n (cells (walk (grammarOf t p) depth i n)) (writes t p i n room)
+caseLine t p i n = caseBy n (cells (walk (rulesOf t p) depth 0 i n)) (writes t p i n room)
 
 unfoldable pub casesOf : List ℕ → List ℕ → ℕ → List ℕ → List ℕ
 casesOf t p i [] = []

@@ -14,7 +14,8 @@ use Rattle.grammar.specs.Table.{nodes}
 use Rattle.grammar.specs.Verdict.{verdict}
 use Rattle.grammar.specs.declared.refusal.Refusal.{Refusal}
 use Rattle.grammar.specs.declared.refusal.Verdict.the-variants.{Accepted}
-use Rattle.visits.specs.Grammar.{Grammar, grammarOf}
+use Rattle.grammar.specs.Rule.{Rule}
+use Rattle.grammar.specs.Sizes.{rulesOf}
 use Rattle.walk.specs.Filled.{over}
 use Rattle.walk.proofs.Fills.{over-front}
 use Rattle.rows.specs.Row.{leaves}
@@ -50,7 +51,7 @@ said-by last h e f s = (h .0 ∙ cc (e, f), ap (λ (k : ℕ). take k last) (sym 
 
 module _ (t p : List ℕ) (a : verdict t p ≡ Accepted) (i : ℕ) (l : i < nodes t) where
   abbrev g : Grammar
-  g = grammarOf t p
+  g = rulesOf t p
 
   writes-row-is : (room : ℕ) (ns : List ℕ) → writesRow t p i room ns ≡ inTurn g i room ns
   unfolding writesRow writesRowPlanned

@@ -22,10 +22,11 @@ use Rattle.grammar.specs.Verdict.{verdict}
 use Rattle.grammar.specs.declared.refusal.Refusal.{Refusal}
 use Rattle.grammar.specs.declared.refusal.Refusal.the-variants.{NumberTooLarge}
 use Rattle.grammar.specs.declared.refusal.Verdict.the-variants.{Accepted}
-use Rattle.visits.specs.Grammar.{Grammar, grammarOf}
+use Rattle.grammar.specs.Rule.{Rule}
+use Rattle.grammar.specs.Sizes.{rulesOf}
 use Rattle.walk.specs.Walk.{walk, cells, depth}
 use Rattle.walk.specs.Room.{Case, most}
-use Rattle.visits.specs.Reading.{Read, read, wrong, taken}
+use Rattle.walk.specs.Run.{Read, read, wrong, run}
 use Rattle.walk.proofs.Back.{shifted-none}
 use Rattle.walk.proofs.Only.{only}
 use Rattle.walk.proofs.Strides.{case-some}
@@ -93,7 +94,7 @@ onward-all (number n ds) rest e = let (ms, u, v) = after-all n (rest ds) e in (n
 onward-all (refused r) rest e = let z : _≡_ {A = ℕ} 0 1 = cc in absurd (omega arith)
 
 -- no more numbers are read than there is room for
-pub gathered-fits : (g : Grammar) (i room : ℕ) (cs : List ℕ) {ns : List ℕ} → gather g i room cs ≡ all ns → length ns ≤ room
+pub gathered-fits : (g : ℕ → Rule) (i room : ℕ) (cs : List ℕ) {ns : List ℕ} → gather g i room cs ≡ all ns → length ns ≤ room
 gathered-fits g i zero [] {ns} e = let f : all [] ≡ all ns = sym (gather-none g i 0) ∙ e in let s : [] ≡ ns = cc in rw (← s) (omega arith)
 gathered-fits g i zero (c ∷ cs) e = absurd (full-not (front g i (c ∷ cs)) (sym (gather-full g i (c ∷ cs) (omega arith)) ∙ e))
 gathered-fits g i (suc room) [] {ns} e = let f : all [] ≡ all ns = sym (gather-none g i (suc room)) ∙ e in let s : [] ≡ ns = cc in rw (← s) (omega arith)
@@ -103,19 +104,19 @@ gathered-fits g i (suc room) (c ∷ cs) {ns} e =
 
 module _ (t p : List ℕ) (a : verdict t p ≡ Accepted) (i : ℕ) (l : i < nodes t) where
   abbrev g : Grammar
-  g = grammarOf t p
+  g = rulesOf t p
 
   -- ---- a case at the front
-  pub front-case : {n : ℕ} {cs : List ℕ} → Asked (g .size i) n → Case g i n cs → (rest : List ℕ) → front g i (cs ++ rest) ≡ number n rest
+  pub front-case : {n : ℕ} {cs : List ℕ} → Asked (g i .size) n → Case g i n cs → (rest : List ℕ) → front g i (cs ++ rest) ≡ number n rest
   unfolding frontOf
   front-case {n} {cs} q c rest =
       let room : length cs + (most - length cs) ≡ most = omega (arith, c .few) in
-      let e : taken g depth i 0 most (cs ++ rest) ≡ read n (most - length cs) rest = rw room at (reads-on t p a i l n cs rest (most - length cs) q c) in
+      let e : run g depth 0 i most (cs ++ rest) ≡ read n (most - length cs) rest = rw room at (reads-on t p a i l n cs rest (most - length cs) q c) in
       rw (e, lt-ltb n (2 ^ 62) (q .small))
 
-  pub case-front : {n : ℕ} {cs rest : List ℕ} → front g i cs ≡ number n rest → (ws : List ℕ) × Asked (g .size i) n × Case g i n ws × (cs ≡ ws ++ rest)
+  pub case-front : {n : ℕ} {cs rest : List ℕ} → front g i cs ≡ number n rest → (ws : List ℕ) × Asked (g i .size) n × Case g i n ws × (cs ≡ ws ++ rest)
   case-front {n} {cs} {rest} e =
-      let (q, r, s) = front-number (taken g depth i 0 most cs) e in
+      let (q, r, s) = front-number (run g depth 0 i most cs) e in
       let (b, (ws, shows, stands, room)) = only g (nodes t) (good-of t p (accepted-passes t p a) (accepted-checked t p a)) depth i l 0 most cs (inl refl) r in
       (ws, record { below = b; small = s }, record { shows = shows; few = omega arith }, stands ∙ rw shifted-none)
 
@@ -129,7 +130,7 @@ module _ (t p : List ℕ) (a : verdict t p ≡ Accepted) (i : ℕ) (l : i < node
       let (x, y) = turns-cut (room - length cs) k (omega arith) in
       let w : fitted g i n room ≡ Cells (length cs) = fitted-is g i n room cs q (c .shows) (omega (arith, c .few)) in
       let one : 1 + length ns ≡ suc (length ns) = omega arith in
-      let shown : cells (walk g depth i n) ≡ cs = rw (c .shows) (cells-map cs) in
+      let shown : cells (walk g depth 0 i n) ≡ cs = rw (c .shows) (cells-map cs) in
       (rw (w, x, one, many), rw (shown, y))
 
   pub cut-turns : (room : ℕ) (ns : List ℕ) {m c : ℕ} → inTurn g i room ns ≡ Done m c → (css : List (List ℕ)) × Cut g i ns css × (joined css ≡ rowOf g i ns)
@@ -139,7 +140,7 @@ module _ (t p : List ℕ) (a : verdict t p ≡ Accepted) (i : ℕ) (l : i < node
       let (k, items, used, f, r, s, s') = onward-done g i (fitted g i n room) _ e in
       let (q, shows, many, few) = fitted-cells g i n room k f in
       let (css, cut, same) = cut-turns (room - k) ns r in
-      (cells (walk g depth i n) ∷ css, item {cs = cells (walk g depth i n)} q (record { shows = shows; few = omega arith }) cut, rw same)
+      (cells (walk g depth 0 i n) ∷ css, item {cs = cells (walk g depth 0 i n)} q (record { shows = shows; few = omega arith }) cut, rw same)
 
   -- ---- reading
   pub gather-cut : {ns : List ℕ} {css : List (List ℕ)} (room : ℕ) → Cut g i ns css → length ns ≤ room → gather g i room (joined css) ≡ all ns
@@ -175,10 +176,10 @@ module _ (t p : List ℕ) (a : verdict t p ≡ Accepted) (i : ℕ) (l : i < node
   counted : (n : ℕ) (xs ys : List ℕ) → Item n (length (xs ++ ys) - length ys) ≡ Item n (length xs)
   counted n xs ys = let s : length (xs ++ ys) - length ys ≡ length xs = omega (arith, length-append xs ys) in rw s
 
-  next-case : (row : List ℕ) (at : ℕ) {n : ℕ} {cs : List ℕ} (rest : List ℕ) → Asked (g .size i) n → Case g i n cs → drop at row ≡ cs ++ rest → nextOf t p i row at ≡ Item n (length cs)
+  next-case : (row : List ℕ) (at : ℕ) {n : ℕ} {cs : List ℕ} (rest : List ℕ) → Asked (g i .size) n → Case g i n cs → drop at row ≡ cs ++ rest → nextOf t p i row at ≡ Item n (length cs)
   next-case row at {n} {cs} rest q c e = next-is row at ∙ rw (e, next-some g i (cs ++ rest) (some-cells rest c), front-case q c rest) (counted n cs rest)
 
-  pub stride-case : {n : ℕ} {cs : List ℕ} → Asked (g .size i) n → Case g i n cs → (before rest : List ℕ)
+  pub stride-case : {n : ℕ} {cs : List ℕ} → Asked (g i .size) n → Case g i n cs → (before rest : List ℕ)
       → strideOf t p i (before ++ (cs ++ rest)) (length before) ≡ record { answer = Item n (length cs); at = length before + length cs }
   stride-case {n} {cs} q c before rest = rw (next-case (before ++ (cs ++ rest)) (length before) rest q c (drop-append-seam before (cs ++ rest)))
 

@@ -11,7 +11,7 @@ use native.Mathlib.Omega.{arith}
 use lib.ListN.{length, drop, set, length-append, length-drop, drop-of-length-le}
 use Rattle.grammar.specs.declared.refusal.Refusal.{Refusal}
 use Rattle.grammar.specs.declared.refusal.Refusal.the-variants.{NoRoom}
-use Rattle.visits.specs.Grammar.{Grammar}
+use Rattle.grammar.specs.Rule.{Rule}
 use Rattle.walk.specs.Filled.{over}
 use Rattle.checked.specs.Item.{Front, front, StoodBy, Stood}
 use Rattle.checked.specs.declared.item.Item.{Item}
@@ -39,7 +39,7 @@ since-after ms n (stopped r item) =
     rw s
 
 -- ---- a row that has a cell
-module _ (g : Grammar) (i : ℕ) where
+module _ (g : ℕ → Rule) (i : ℕ) where
   pub gather-none : (room : ℕ) → gather g i room [] ≡ all []
   unfolding gather
   gather-none zero = refl

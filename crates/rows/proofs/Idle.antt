@@ -19,19 +19,17 @@ use Rattle.numbers.specs.Except
 use Rattle.graph.specs.Ways.{has, via}
 use Rattle.graph.specs.Lowest.{lowest}
 use Rattle.grammar.specs.Refusals.{numberOf}
-use Rattle.grammar.specs.Node.{nodeOf, usesA, usesB}
 use Rattle.grammar.specs.Checks.{row, different, every, total}
 use Rattle.grammar.specs.Rows.{belowRow, natsRow, poolRow, shiftRow, orRow, consRow, secondsRow, further, depRow, exceptRow, fixRow, againRow, rowOf, rowAt}
 use Rattle.grammar.specs.Sizes.{onward, scan, sizes}
 use Rattle.grammar.specs.Steps.{steps}
 use Rattle.grammar.specs.Verdict.{leads, unguarded, exceptOnCycle, cycles, settled, verdict}
-use Rattle.visits.specs.Grammar.{grammarOf}
-use Rattle.visits.specs.Visit.{stepOf}
+use Rattle.grammar.specs.Sizes.{rulesOf}
 use Rattle.grammar.specs.kinds.Dep.{secondsOf}
-use Rattle.walk.specs.Walk.{raised, shown, walk}
+use Rattle.walk.specs.Walk.{shown, walk}
 use Rattle.walk.specs.Walk
 use Rattle.walk.specs.Room.{tallied}
-use Rattle.visits.specs.Reading.{cellOf, ahead, become, follow, taken}
+use Rattle.walk.specs.Run.{cellOf, follow, run}
 use Rattle.grammar.specs.kinds.Pool.{placeOf}
 use Rattle.checked.specs.Fits.{fitted}
 use Rattle.checked.specs.Item.{frontOf}
@@ -57,14 +55,14 @@ blank = 7 ∷ 7 ∷ 7 ∷ 7 ∷ []
 -- what the definitions give: L at 0 is 0 0, L at 1 is 1 0 0 0, and 1 0 0 0 is number 1; the row of 0, 0 is 0 0 0 0
 computed :
     (writes L [] 5 0 4 ≡ Done 2)
-    × (over (Walk.cells (walk (grammarOf L []) 200 5 0)) blank ≡ 0 ∷ 0 ∷ 7 ∷ 7 ∷ [])
-    × (over (Walk.cells (walk (grammarOf L []) 200 5 1)) blank ≡ 1 ∷ 0 ∷ 0 ∷ 0 ∷ [])
+    × (over (Walk.cells (walk (rulesOf L []) 200 5 0)) blank ≡ 0 ∷ 0 ∷ 7 ∷ 7 ∷ [])
+    × (over (Walk.cells (walk (rulesOf L []) 200 5 1)) blank ≡ 1 ∷ 0 ∷ 0 ∷ 0 ∷ [])
     × (writes L [] 5 1 4 ≡ Done 4)
     × (reads L [] 5 (1 ∷ 0 ∷ 0 ∷ 0 ∷ []) ≡ Number 1)
     × (writesRow L [] 5 4 (0 ∷ 0 ∷ []) ≡ Row-done 2 4)
-    × (over (Written.rowOf (grammarOf L []) 5 (0 ∷ 0 ∷ [])) blank ≡ 0 ∷ 0 ∷ 0 ∷ 0 ∷ [])
+    × (over (Written.rowOf (rulesOf L []) 5 (0 ∷ 0 ∷ [])) blank ≡ 0 ∷ 0 ∷ 0 ∷ 0 ∷ [])
     × (readsRow L [] 5 4 (0 ∷ 0 ∷ 0 ∷ 0 ∷ []) ≡ Row-done 2 4)
-    × (over (gotten (gather (grammarOf L []) 5 4 (0 ∷ 0 ∷ 0 ∷ 0 ∷ []))) blank ≡ 0 ∷ 0 ∷ 7 ∷ 7 ∷ [])
+    × (over (gotten (gather (rulesOf L []) 5 4 (0 ∷ 0 ∷ 0 ∷ 0 ∷ []))) blank ≡ 0 ∷ 0 ∷ 7 ∷ 7 ∷ [])
     × (nextOf L [] 5 (0 ∷ 0 ∷ []) 0 ≡ Item 0 2)
 unfolding plus times less rootBy root Or.split Or.join Cons.split Cons.join inTurn Dep.split Dep.join Dep.total Except.split Except.join has via lowest numberOf nodeOf usesA usesB row different every total belowRow natsRow poolRow shiftRow orRow consRow secondsRow further depRow exceptRow fixRow againRow rowOf rowAt onward scan sizes steps leads unguarded exceptOnCycle cycles settled verdict secondsOf stepOf raised shown walk Walk.cells tallied fitted cellOf placeOf ahead become follow taken frontOf writesRowPlanned writesRow Written.inTurn Written.rowOf gather readsRowPlanned readsRow walks writes over found finds reads next nextPlanned nextOf
 computed = (refl, refl, refl, refl, refl, refl, refl, refl, refl, refl)

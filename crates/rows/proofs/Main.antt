@@ -13,7 +13,7 @@ use Rattle.grammar.specs.Verdict.{verdict}
 use Rattle.grammar.specs.declared.refusal.Refusal.{Refusal}
 use Rattle.grammar.specs.declared.refusal.Refusal.the-variants.{NotACase}
 use Rattle.grammar.specs.declared.refusal.Verdict.the-variants.{Accepted}
-use Rattle.visits.specs.Grammar.{grammarOf}
+use Rattle.grammar.specs.Sizes.{rulesOf}
 use Rattle.walk.specs.Walk.{cell, walk}
 use Rattle.walk.specs.Room.{Case}
 use Rattle.checked.specs.Fits.{Asked}
@@ -62,7 +62,7 @@ module _ {t p : List ℕ} {i : ℕ} where
 -- ---- For every accepted table and every start in it
 module _ (t p : List ℕ) (a : verdict t p ≡ Accepted) (i : ℕ) (l : i < nodes t) where
   -- ---- Demand 2. "the case of a number and the number of a case .. each undoes the other, and nothing else is accepted"
-  case-written : {n : ℕ} {cs old last : List ℕ} {r : Written} → Asked (sizeAt (sizes t p) i) n → Case (grammarOf t p) i n cs → length cs ≤ length old → Wrote t p i n old last r
+  case-written : {n : ℕ} {cs old last : List ℕ} {r : Written} → Asked (sizeAt (sizes t p) i) n → Case (rulesOf t p) i n cs → length cs ≤ length old → Wrote t p i n old last r
       → (r ≡ Done (length cs)) × (take (length cs) last ≡ cs)
   case-written q c f h = Sides.case-written t p a i l q c f h
 
@@ -73,23 +73,23 @@ module _ (t p : List ℕ) (a : verdict t p ≡ Accepted) (i : ℕ) (l : i < node
       → (r ≡ Done (length cs)) × (take (length cs) last ≡ cs)
   read-then-written e f h = Sides.read-then-written t p a i l e f h
 
-  only-cases : (n : ℕ) (cs : List ℕ) → reads t p i cs ≡ Number n → Asked (sizeAt (sizes t p) i) n × Case (grammarOf t p) i n cs
+  only-cases : (n : ℕ) (cs : List ℕ) → reads t p i cs ≡ Number n → Asked (sizeAt (sizes t p) i) n × Case (rulesOf t p) i n cs
   only-cases = Both-sides.only-cases t p a i l
 
   one-case : (n : ℕ) (cs ds : List ℕ) → reads t p i cs ≡ Number n → reads t p i ds ≡ Number n → cs ≡ ds
   one-case = Both-sides.one-case t p a i l
 
-  every-number : (n : ℕ) → Below n (sizeAt (sizes t p) i) → (d : ℕ) × (cs : List ℕ) × (walk (grammarOf t p) d i n ≡ map cell cs)
+  every-number : (n : ℕ) → Below n (sizeAt (sizes t p) i) → (d : ℕ) × (cs : List ℕ) × (walk (rulesOf t p) d 0 i n ≡ map cell cs)
   every-number = Ends.every-number t p a i l
 
   -- ---- Demand 3. "read back as exactly that list; no other list writes the same row; no case is the beginning of a different case"
   no-beginning : (m n : ℕ) (cs more : List ℕ) → reads t p i cs ≡ Number m → reads t p i (cs ++ more) ≡ Number n → (more ≡ []) × (m ≡ n)
   no-beginning = Both-sides.no-beginning t p a i l
 
-  longer-refused : (n : ℕ) (cs : List ℕ) (c : ℕ) (more : List ℕ) → Asked (sizeAt (sizes t p) i) n → Case (grammarOf t p) i n cs → reads t p i (cs ++ (c ∷ more)) ≡ Not-found NotACase 0
+  longer-refused : (n : ℕ) (cs : List ℕ) (c : ℕ) (more : List ℕ) → Asked (sizeAt (sizes t p) i) n → Case (rulesOf t p) i n cs → reads t p i (cs ++ (c ∷ more)) ≡ Not-found NotACase 0
   longer-refused = Both-sides.longer-refused t p a i l
 
-  row-there-and-back : {ns : List ℕ} {css : List (List ℕ)} → Cut (grammarOf t p) i ns css → {old last old' last' : List ℕ} {w r : Row}
+  row-there-and-back : {ns : List ℕ} {css : List (List ℕ)} → Cut (rulesOf t p) i ns css → {old last old' last' : List ℕ} {w r : Row}
       → length (joined css) ≤ length old → length ns ≤ length old' → WroteRow t p i ns old last w → GotRow t p i (take (length (joined css)) last) old' last' r
       → (r ≡ Row-done (length ns) (length (joined css))) × (take (length ns) last' ≡ ns)
   row-there-and-back cut f f' h k = One-list.row-there-and-back t p a i l cut f f' h k
@@ -98,7 +98,7 @@ module _ (t p : List ℕ) (a : verdict t p ≡ Accepted) (i : ℕ) (l : i < node
       → take c last ≡ take c' last' → ns ≡ ms
   one-list h k e = One-list.one-list t p a i l h k e
 
-  one-cut : {ns ms : List ℕ} {css dss : List (List ℕ)} → Cut (grammarOf t p) i ns css → Cut (grammarOf t p) i ms dss → joined css ≡ joined dss → (ns ≡ ms) × (css ≡ dss)
+  one-cut : {ns ms : List ℕ} {css dss : List (List ℕ)} → Cut (rulesOf t p) i ns css → Cut (rulesOf t p) i ms dss → joined css ≡ joined dss → (ns ≡ ms) × (css ≡ dss)
   one-cut cut cut' e = One-list.one-cut t p a i l cut cut' e
 
   reader-done : {row old last : List ℕ} {m c : ℕ} → GotRow t p i row old last (Row-done m c)

@@ -20,7 +20,8 @@ use Rattle.grammar.specs.Table.{nodes}
 use Rattle.grammar.specs.Verdict.{verdict}
 use Rattle.grammar.specs.declared.refusal.Refusal.{Refusal}
 use Rattle.grammar.specs.declared.refusal.Verdict.the-variants.{Accepted}
-use Rattle.visits.specs.Grammar.{Grammar, grammarOf}
+use Rattle.grammar.specs.Rule.{Rule}
+use Rattle.grammar.specs.Sizes.{rulesOf}
 use Rattle.walk.specs.Room.{Case}
 use Rattle.checked.specs.Fits.{Asked}
 use Rattle.rows.specs.WriteRow.{WroteRow}
@@ -35,7 +36,7 @@ use Rattle.rows.proofs.Answers.{wrote-cut, cut-wrote, got-cut, cut-got,
 
 module _ (t p : List ℕ) (a : verdict t p ≡ Accepted) (i : ℕ) (l : i < nodes t) where
   abbrev g : Grammar
-  g = grammarOf t p
+  g = rulesOf t p
 
   -- ---- 1. exactly that list
   pub row-written : {ns : List ℕ} {css : List (List ℕ)} → Cut g i ns css → {old last : List ℕ} {w : Row} → length (joined css) ≤ length old
@@ -75,7 +76,7 @@ module _ (t p : List ℕ) (a : verdict t p ≡ Accepted) (i : ℕ) (l : i < node
 
   -- ---- the reader
   -- wherever a case stands in a row, whatever follows it
-  pub case-handed : {n : ℕ} {cs : List ℕ} → Asked (g .size i) n → Case g i n cs → (before rest : List ℕ)
+  pub case-handed : {n : ℕ} {cs : List ℕ} → Asked (g i .size) n → Case g i n cs → (before rest : List ℕ)
       → strideOf t p i (before ++ (cs ++ rest)) (length before) ≡ record { answer = Item n (length cs); at = length before + length cs }
   case-handed q c before rest = stride-case t p a i l q c before rest
 

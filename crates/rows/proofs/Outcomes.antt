@@ -17,7 +17,7 @@ use Rattle.grammar.specs.Verdict.{verdict}
 use Rattle.grammar.specs.declared.refusal.Refusal.the-variants.{NoSuchStart}
 use Rattle.grammar.specs.declared.refusal.Verdict.{Verdict}
 use Rattle.grammar.specs.declared.refusal.Verdict.the-variants.{Accepted, Refused as Refuses}
-use Rattle.visits.specs.Grammar.{grammarOf}
+use Rattle.grammar.specs.Sizes.{rulesOf}
 use Rattle.walk.specs.Filled.{over}
 use Rattle.walk.proofs.Fills.{over-front}
 use Rattle.walk.proofs.Strides.{case-some}
@@ -48,41 +48,41 @@ answered-size used room (stopped r k) f e = let z : _≡_ {A = ℕ} 0 1 = cc in 
 
 module _ {t p : List ℕ} {i : ℕ} where
   module _ {ns old last : List ℕ} {r : Row} (h : WroteRow t p i ns old last r) {m c : ℕ} (e : r ≡ Done m c) where
-    written : (m ≡ length ns) × (c ≡ length (rowOf (grammarOf t p) i ns)) × (c ≤ length old)
+    written : (m ≡ length ns) × (c ≡ length (rowOf (rulesOf t p) i ns)) × (c ≤ length old)
     unfolding writesRow writesRowPlanned
     written =
-        done-row (grammarOf t p) i (length old) ns
-        (started-done (ltb i (nodes t)) (inTurn (grammarOf t p) i (length old) ns) (judged-done (verdict t p) (writesRowPlanned t p i (length old) ns) (sym (h .is) ∙ e)))
+        done-row (rulesOf t p) i (length old) ns
+        (started-done (ltb i (nodes t)) (inTurn (rulesOf t p) i (length old) ns) (judged-done (verdict t p) (writesRowPlanned t p i (length old) ns) (sym (h .is) ∙ e)))
 
-    pub row-size : c ≡ length (rowOf (grammarOf t p) i ns)
+    pub row-size : c ≡ length (rowOf (rulesOf t p) i ns)
     row-size = written .1
 
     pub row-fits : c ≤ length old
     row-fits = written .2
 
-    pub row-cells : take c last ≡ rowOf (grammarOf t p) i ns
+    pub row-cells : take c last ≡ rowOf (rulesOf t p) i ns
     row-cells =
-        let ws = rowOf (grammarOf t p) i ns in
+        let ws = rowOf (rulesOf t p) i ns in
         let holds : last ≡ over ws old = h .holds ∙ ap (λ (w : Row). leaves w ws old) e in
         rw (holds, row-size) (over-front ws old (omega (arith, row-size, row-fits)))
 
   module _ {cs old last : List ℕ} {r : Row} (h : GotRow t p i cs old last r) {m c : ℕ} (e : r ≡ Done m c) where
-    read : (m ≡ length (gotten (gather (grammarOf t p) i (length old) cs))) × (m ≤ length old)
+    read : (m ≡ length (gotten (gather (rulesOf t p) i (length old) cs))) × (m ≤ length old)
     unfolding readsRow readsRowPlanned
     read =
-        let x = gather (grammarOf t p) i (length old) cs in
-        answered-size (length cs) (length old) x (λ ns f. gathered-fits (grammarOf t p) i (length old) cs f)
+        let x = gather (rulesOf t p) i (length old) cs in
+        answered-size (length cs) (length old) x (λ ns f. gathered-fits (rulesOf t p) i (length old) cs f)
         (started-done (ltb i (nodes t)) (answered (length cs) x) (judged-done (verdict t p) (readsRowPlanned t p i (length old) cs) (sym (h .is) ∙ e)))
 
-    pub got-size : m ≡ length (gotten (gather (grammarOf t p) i (length old) cs))
+    pub got-size : m ≡ length (gotten (gather (rulesOf t p) i (length old) cs))
     got-size = read .0
 
     pub got-fits : m ≤ length old
     got-fits = read .1
 
-    pub got-numbers : take m last ≡ gotten (gather (grammarOf t p) i (length old) cs)
+    pub got-numbers : take m last ≡ gotten (gather (rulesOf t p) i (length old) cs)
     got-numbers =
-        let ws = gotten (gather (grammarOf t p) i (length old) cs) in
+        let ws = gotten (gather (rulesOf t p) i (length old) cs) in
         let holds : last ≡ over ws old = h .holds ∙ ap (λ (w : Row). leaves w ws old) e in
         rw (holds, got-size) (over-front ws old (omega (arith, got-size, got-fits)))
 
@@ -91,21 +91,21 @@ module _ (t p : List ℕ) (i n k : ℕ) where
   abbrev Moves : List ℕ → Type 0
   Moves cs = (0 < length cs) × (0 < k) × (k ≤ length cs)
 
-  item-moves : verdict t p ≡ Accepted → i < nodes t → (cs : List ℕ) → next (grammarOf t p) i cs ≡ Item n k → Moves cs
+  item-moves : verdict t p ≡ Accepted → i < nodes t → (cs : List ℕ) → next (rulesOf t p) i cs ≡ Item n k → Moves cs
   unfolding next
   item-moves a l [] e = let z : _≡_ {A = ℕ} 0 1 = cc in absurd (omega arith)
-  item-moves a l (c ∷ cs) e = by (front (grammarOf t p) i (c ∷ cs)) refl e
+  item-moves a l (c ∷ cs) e = by (front (rulesOf t p) i (c ∷ cs)) refl e
     where
-      by : (f : Front) → front (grammarOf t p) i (c ∷ cs) ≡ f → handed (length (c ∷ cs)) f ≡ Item n k → Moves (c ∷ cs)
+      by : (f : Front) → front (rulesOf t p) i (c ∷ cs) ≡ f → handed (length (c ∷ cs)) f ≡ Item n k → Moves (c ∷ cs)
       by (number m rest) u v =
           let s : length (c ∷ cs) - length rest ≡ k = cc in
           let (ws, q, one, same) = case-front t p a i l u in
           let long = ap length same ∙ length-append ws rest in
-          (omega arith, omega (arith, case-some (grammarOf t p) i m ws one), omega arith)
+          (omega arith, omega (arith, case-some (rulesOf t p) i m ws one), omega arith)
       by (refused r) u v = let z : _≡_ {A = ℕ} 0 1 = cc in absurd (omega arith)
 
   module _ (row : List ℕ) (at : ℕ) where
-    started-moves : verdict t p ≡ Accepted → (b : Bool) → ltb i (nodes t) ≡ b → pick b (next (grammarOf t p) i (drop at row)) (Not-handed NoSuchStart 0) ≡ Item n k → Moves (drop at row)
+    started-moves : verdict t p ≡ Accepted → (b : Bool) → ltb i (nodes t) ≡ b → pick b (next (rulesOf t p) i (drop at row)) (Not-handed NoSuchStart 0) ≡ Item n k → Moves (drop at row)
     started-moves a true u e = item-moves a (ltb-true i (nodes t) u) (drop at row) e
     started-moves a false u e = let z : _≡_ {A = ℕ} 0 1 = cc in absurd (omega arith)
 

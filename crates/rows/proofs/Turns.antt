@@ -11,7 +11,7 @@ use native.Mathlib.Omega.{arith}
 use lib.ListN.{length, getD, take, drop, length-append, length-drop, length-take, drop-of-length-le}
 use lib.Seq.{take-all, take-suc, drop-cons}
 use Rattle.grammar.specs.declared.refusal.Refusal.{Refusal}
-use Rattle.visits.specs.Grammar.{Grammar}
+use Rattle.grammar.specs.Rule.{Rule}
 use Rattle.walk.specs.Walk.{walk, cells, depth}
 use Rattle.walk.specs.Filled.{over}
 use Rattle.walk.proofs.Fills.{length-over, part-old, part-rest, then}
@@ -37,7 +37,7 @@ later-none (Done m u) =
     rw (x, y)
 later-none (Refused r k item) = let x : 0 + item ≡ item = omega arith in rw x
 
-module _ (g : Grammar) (i : ℕ) where
+module _ (g : ℕ → Rule) (i : ℕ) where
   pub record Tallying (room : ℕ) (ns : List ℕ) (j used : ℕ) : Type 0 where
     pub le : j ≤ length ns
     pub fits : used ≤ room
@@ -80,9 +80,9 @@ module _ (g : Grammar) (i : ℕ) where
   row-append : (ms ns : List ℕ) → rowOf g i (ms ++ ns) ≡ rowOf g i ms ++ rowOf g i ns
   unfolding rowOf
   row-append [] ns = refl
-  row-append (m ∷ ms) ns = rw (row-append ms ns) (sym (append-assoc (cells (walk g depth i m)) (rowOf g i ms) (rowOf g i ns)))
+  row-append (m ∷ ms) ns = rw (row-append ms ns) (sym (append-assoc (cells (walk g depth 0 i m)) (rowOf g i ms) (rowOf g i ns)))
 
-  row-more : (ns : List ℕ) (j : ℕ) → j < length ns → rowOf g i (take (j + 1) ns) ≡ rowOf g i (take j ns) ++ cells (walk g depth i (getD ns j 0))
+  row-more : (ns : List ℕ) (j : ℕ) → j < length ns → rowOf g i (take (j + 1) ns) ≡ rowOf g i (take j ns) ++ cells (walk g depth 0 i (getD ns j 0))
   unfolding rowOf
   row-more ns j l = rw (add-one, take-suc ns j 0 l) (row-append (take j ns) (getD ns j 0 ∷ []) ∙ rw append-nil)
 
@@ -128,7 +128,7 @@ module _ (g : Grammar) (i : ℕ) where
           let n : used ≡ min (length (rowOf g i (take j ns))) (length old) = omega (arith, h .many, h .tally .fits) in
           record {
             tally = tallying-more (h .tally) l fit-is q;
-            many = omega (arith, h .many, c, ap length (row-more ns j l), length-append (rowOf g i (take j ns)) (cells (walk g depth i (getD ns j 0))));
+            many = omega (arith, h .many, c, ap length (row-more ns j l), length-append (rowOf g i (take j ns)) (cells (walk g depth 0 i (getD ns j 0))));
             holds = rw (row-more ns j l) (then (record { count = n; holds = h .holds }) (record { count = refl; holds = e .holds k q }) p .holds);
           }
 
@@ -152,4 +152,4 @@ module _ (g : Grammar) (i : ℕ) where
       let (k, items, used, f, r, s, s') = onward-done (fitted g i n room) _ e in
       let (a, b, c, w) = fitted-cells g i n room k f in
       let (x, y, z) = done-row (room - k) ns r in
-      (omega arith, omega (arith, length-append (cells (walk g depth i n)) (rowOf g i ns)), omega arith)
+      (omega arith, omega (arith, length-append (cells (walk g depth 0 i n)) (rowOf g i ns)), omega arith)

@@ -7,7 +7,7 @@ use mathlib.Core.List.{List}
 use Prim.Native.Nat.{ℕ}
 use Rattle.grammar.specs.Verdict.{verdict}
 use Rattle.grammar.specs.declared.refusal.Verdict.{Verdict}
-use Rattle.visits.specs.Grammar.{grammarOf}
+use Rattle.grammar.specs.Sizes.{rulesOf}
 use Rattle.walk.specs.Walk.{walk, cells, depth}
 use Rattle.cases.specs.Write.{Wrote}
 use Rattle.cases.specs.Write as Write
@@ -30,7 +30,7 @@ module _ (t p : List ℕ) (i : ℕ) where
   pub one-writing : {n : ℕ} {old last last' : List ℕ} {r r' : Written} → Wrote t p i n old last r → Wrote t p i n old last' r' → (r ≡ r') × (last ≡ last')
   one-writing {n} {old} h k =
       let same = h .is ∙ sym (k .is) in
-      (same, h .holds ∙ ap (λ (x : Written). Write.leaves x (cells (walk (grammarOf t p) depth i n)) old) same ∙ sym (k .holds))
+      (same, h .holds ∙ ap (λ (x : Written). Write.leaves x (cells (walk (rulesOf t p) depth 0 i n)) old) same ∙ sym (k .holds))
 
   pub one-reading : (cs : List ℕ) {r r' : Found} → r ≡ reads t p i cs → r' ≡ reads t p i cs → r ≡ r'
   one-reading cs e f = e ∙ sym f
@@ -38,12 +38,12 @@ module _ (t p : List ℕ) (i : ℕ) where
   pub one-row-writing : {ns old last last' : List ℕ} {r r' : Row} → WroteRow t p i ns old last r → WroteRow t p i ns old last' r' → (r ≡ r') × (last ≡ last')
   one-row-writing {ns} {old} h k =
       let same = h .is ∙ sym (k .is) in
-      (same, h .holds ∙ ap (λ (x : Row). leaves x (rowOf (grammarOf t p) i ns) old) same ∙ sym (k .holds))
+      (same, h .holds ∙ ap (λ (x : Row). leaves x (rowOf (rulesOf t p) i ns) old) same ∙ sym (k .holds))
 
   pub one-row-reading : {cs old last last' : List ℕ} {r r' : Row} → GotRow t p i cs old last r → GotRow t p i cs old last' r' → (r ≡ r') × (last ≡ last')
   one-row-reading {cs} {old} h k =
       let same = h .is ∙ sym (k .is) in
-      (same, h .holds ∙ ap (λ (x : Row). leaves x (gotten (gather (grammarOf t p) i (length old) cs)) old) same ∙ sym (k .holds))
+      (same, h .holds ∙ ap (λ (x : Row). leaves x (gotten (gather (rulesOf t p) i (length old) cs)) old) same ∙ sym (k .holds))
 
   pub one-stride : (row : List ℕ) (at : ℕ) {s s' : Stride} → s ≡ strideOf t p i row at → s' ≡ strideOf t p i row at → s ≡ s'
   one-stride row at e f = e ∙ sym f

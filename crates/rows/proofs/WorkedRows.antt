@@ -14,19 +14,17 @@ use Rattle.numbers.specs.Except
 use Rattle.graph.specs.Ways.{has, via}
 use Rattle.graph.specs.Lowest.{lowest}
 use Rattle.grammar.specs.Refusals.{numberOf}
-use Rattle.grammar.specs.Node.{nodeOf, usesA, usesB}
 use Rattle.grammar.specs.Checks.{row, different, every, total}
 use Rattle.grammar.specs.Rows.{belowRow, natsRow, poolRow, shiftRow, orRow, consRow, secondsRow, further, depRow, exceptRow, fixRow, againRow, rowOf, rowAt}
 use Rattle.grammar.specs.Sizes.{onward, scan, sizes}
 use Rattle.grammar.specs.Steps.{steps}
 use Rattle.grammar.specs.Verdict.{leads, unguarded, exceptOnCycle, cycles, settled, verdict}
-use Rattle.visits.specs.Grammar.{grammarOf}
-use Rattle.visits.specs.Visit.{stepOf}
+use Rattle.grammar.specs.Sizes.{rulesOf}
 use Rattle.grammar.specs.kinds.Dep.{secondsOf}
-use Rattle.walk.specs.Walk.{raised, shown, walk}
+use Rattle.walk.specs.Walk.{shown, walk}
 use Rattle.walk.specs.Walk
 use Rattle.walk.specs.Room.{tallied}
-use Rattle.visits.specs.Reading.{cellOf, ahead, become, follow, taken}
+use Rattle.walk.specs.Run.{cellOf, follow, run}
 use Rattle.grammar.specs.kinds.Pool.{placeOf}
 use Rattle.checked.specs.Fits.{fitted}
 use Rattle.checked.specs.Item.{frontOf}
@@ -51,8 +49,8 @@ abbrev handed : NextAnswer → List ℕ
 handed x = x .refusal ∷ x .node ∷ x .items ∷ x .cells ∷ x .number ∷ []
 
 unfoldable pub asked : Worked → List (List ℕ)
-asked (writes-as t i room ns r cs) = told (rowAnswer (writesRow t [] i room ns)) ∷ Written.rowOf (grammarOf t []) i ns ∷ []
-asked (reads-as t i room cs r ns) = told (rowAnswer (readsRow t [] i room cs)) ∷ gotten (gather (grammarOf t []) i room cs) ∷ []
+asked (writes-as t i room ns r cs) = told (rowAnswer (writesRow t [] i room ns)) ∷ Written.rowOf (rulesOf t []) i ns ∷ []
+asked (reads-as t i room cs r ns) = told (rowAnswer (readsRow t [] i room cs)) ∷ gotten (gather (rulesOf t []) i room cs) ∷ []
 asked (hands-as t i row at x) = handed (nextAnswer (nextOf t [] i row at)) ∷ []
 
 unfoldable pub expected : Worked → List (List ℕ)

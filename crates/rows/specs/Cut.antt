@@ -7,16 +7,16 @@
 use mathlib.Core.List.{List, [], _∷_, _++_}
 use Prim.Native.Nat.{ℕ, zero, suc, _+_}
 use lib.ListN.{length}
-use Rattle.visits.specs.Grammar.{Grammar}
+use Rattle.grammar.specs.Rule.{Rule}
 use Rattle.walk.specs.Room.{Case}
 use Rattle.checked.specs.Fits.{Asked}
 use Rattle.rows.specs.declared.reader.Next.{Next}
 use Rattle.rows.specs.declared.reader.Next.the-variants.{Item}
 use Rattle.rows.specs.declared.reader.Stride.{Stride}
 
-pub data Cut (g : Grammar) (i : ℕ) : List ℕ → List (List ℕ) → Type 0 where
+pub data Cut (g : ℕ → Rule) (i : ℕ) : List ℕ → List (List ℕ) → Type 0 where
   none : Cut g i [] []
-  item : {n : ℕ} {ns : List ℕ} {cs : List ℕ} {css : List (List ℕ)} → Asked (g .size i) n → Case g i n cs → Cut g i ns css → Cut g i (n ∷ ns) (cs ∷ css)
+  item : {n : ℕ} {ns : List ℕ} {cs : List ℕ} {css : List (List ℕ)} → Asked (g i .size) n → Case g i n cs → Cut g i ns css → Cut g i (n ∷ ns) (cs ∷ css)
 
 unfoldable pub joined : List (List ℕ) → List ℕ
 joined [] = []

@@ -15,7 +15,8 @@ use Rattle.grammar.specs.Table.{nodes}
 use Rattle.grammar.specs.Verdict.{verdict}
 use Rattle.grammar.specs.declared.refusal.Refusal.{Refusal}
 use Rattle.grammar.specs.declared.refusal.Refusal.the-variants.{NoSuchStart, NoRoom}
-use Rattle.visits.specs.Grammar.{Grammar, grammarOf}
+use Rattle.grammar.specs.Rule.{Rule}
+use Rattle.grammar.specs.Sizes.{rulesOf}
 use Rattle.walk.specs.Filled.{over}
 use Rattle.checked.specs.Item.{Front, number, refused, front}
 use Rattle.rows.specs.Row.{judged, leaves}
@@ -40,7 +41,7 @@ abbrev pub onward : Front → (List ℕ → Gathered) → Gathered
 onward (number n rest) f = after n (f rest)
 onward (refused r) f = stopped r 0
 
-unfoldable pub gather : Grammar → ℕ → ℕ → List ℕ → Gathered
+unfoldable pub gather : (ℕ → Rule) → ℕ → ℕ → List ℕ → Gathered
 gather g i zero [] = all []
 gather g i (suc room) [] = all []
 gather g i zero (c ∷ cs) = full (front g i (c ∷ cs))
@@ -56,26 +57,26 @@ gotten (all ns) = ns
 gotten (stopped r item) = []
 
 -- the answer for the cells, and what becomes of a buffer: the numbers of a row that is done are over its front, as far as that goes
-pub record NumbersOver (g : Grammar) (i room : ℕ) (cs old last : List ℕ) (r : Row) : Type 0 where
+pub record NumbersOver (g : ℕ → Rule) (i room : ℕ) (cs old last : List ℕ) (r : Row) : Type 0 where
   pub is : r ≡ answered (length cs) (gather g i room cs)
   pub long : length last ≡ length old
   pub holds : (m c : ℕ) → r ≡ Done m c → last ≡ over (gotten (gather g i room cs)) old
 
 -- 11, then the items
 unfoldable pub readsRowPlanned : List ℕ → List ℕ → ℕ → ℕ → List ℕ → Row
-readsRowPlanned t p i room cs = pick (ltb i (nodes t)) (answered (length cs) (gather (grammarOf t p) i room cs)) (Refused NoSuchStart 0 0)
+readsRowPlanned t p i room cs = pick (ltb i (nodes t)) (answered (length cs) (gather (rulesOf t p) i room cs)) (Refused NoSuchStart 0 0)
 
 unfoldable pub readsRow : List ℕ → List ℕ → ℕ → ℕ → List ℕ → Row
 readsRow t p i room cs = judged (verdict t p) (readsRowPlanned t p i room cs)
 
 pub record GotRow (t p : List ℕ) (i : ℕ) (cs old last : List ℕ) (r : Row) : Type 0 where
   pub is : r ≡ readsRow t p i (length old) cs
-  pub holds : last ≡ leaves r (gotten (gather (grammarOf t p) i (length old) cs)) old
+  pub holds : last ≡ leaves r (gotten (gather (rulesOf t p) i (length old) cs)) old
 
 -- of an accepted table
 pub record GotRowPlanned (t p : List ℕ) (i : ℕ) (cs old last : List ℕ) (r : Row) : Type 0 where
   pub is : r ≡ readsRowPlanned t p i (length old) cs
-  pub holds : last ≡ leaves r (gotten (gather (grammarOf t p) i (length old) cs)) old
+  pub holds : last ≡ leaves r (gotten (gather (rulesOf t p) i (length old) cs)) old
 
 -- all its items are read
 pub record Gathers (x : Gathered) : Type 0 where

@@ -16,7 +16,8 @@ use Rattle.grammar.specs.Verdict.{verdict}
 use Rattle.grammar.specs.declared.refusal.Refusal.the-variants.{NoSuchStart}
 use Rattle.grammar.specs.declared.refusal.Verdict.{Verdict}
 use Rattle.grammar.specs.declared.refusal.Verdict.the-variants.{Accepted, Refused as Refuses}
-use Rattle.visits.specs.Grammar.{Grammar, grammarOf}
+use Rattle.grammar.specs.Rule.{Rule}
+use Rattle.grammar.specs.Sizes.{rulesOf}
 use Rattle.checked.specs.Item.{Front, number, refused, front}
 use Rattle.rows.specs.declared.reader.Next.{Next}
 use Rattle.rows.specs.declared.reader.Next.the-variants.{Item, End, Refused}
@@ -31,13 +32,13 @@ abbrev pub handed : ℕ → Front → Next
 handed count (number n rest) = Item n (count - length rest)
 handed count (refused r) = Refused r 0
 
-unfoldable pub next : Grammar → ℕ → List ℕ → Next
+unfoldable pub next : (ℕ → Rule) → ℕ → List ℕ → Next
 next g i [] = End
 next g i (c ∷ cs) = handed (length (c ∷ cs)) (front g i (c ∷ cs))
 
 -- 11, then the item
 unfoldable pub nextPlanned : List ℕ → List ℕ → ℕ → List ℕ → ℕ → Next
-nextPlanned t p i row at = pick (ltb i (nodes t)) (next (grammarOf t p) i (drop at row)) (Refused NoSuchStart 0)
+nextPlanned t p i row at = pick (ltb i (nodes t)) (next (rulesOf t p) i (drop at row)) (Refused NoSuchStart 0)
 
 unfoldable pub nextOf : List ℕ → List ℕ → ℕ → List ℕ → ℕ → Next
 nextOf t p i row at = judged (verdict t p) (nextPlanned t p i row at)

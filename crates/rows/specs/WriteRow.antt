@@ -14,7 +14,8 @@ use Rattle.numbers.specs.Pick.{pick}
 use Rattle.grammar.specs.Table.{nodes}
 use Rattle.grammar.specs.Verdict.{verdict}
 use Rattle.grammar.specs.declared.refusal.Refusal.the-variants.{NoSuchStart}
-use Rattle.visits.specs.Grammar.{Grammar, grammarOf}
+use Rattle.grammar.specs.Rule.{Rule}
+use Rattle.grammar.specs.Sizes.{rulesOf}
 use Rattle.walk.specs.Walk.{walk, cells, depth}
 use Rattle.walk.specs.Filled.{over}
 use Rattle.checked.specs.Fits.{fitted}
@@ -34,32 +35,32 @@ abbrev pub onward : Fit → (ℕ → Row) → Row
 onward (Cells c) rest = later 1 c (rest c)
 onward (Not r) rest = Refused r 0 0
 
-unfoldable pub inTurn : Grammar → ℕ → ℕ → List ℕ → Row
+unfoldable pub inTurn : (ℕ → Rule) → ℕ → ℕ → List ℕ → Row
 inTurn g i room [] = Done 0 0
 inTurn g i room (n ∷ ns) = onward (fitted g i n room) (λ c. inTurn g i (room - c) ns)
 
-unfoldable pub rowOf : Grammar → ℕ → List ℕ → List ℕ
+unfoldable pub rowOf : (ℕ → Rule) → ℕ → List ℕ → List ℕ
 rowOf g i [] = []
-rowOf g i (n ∷ ns) = cells (walk g depth i n) ++ rowOf g i ns
+rowOf g i (n ∷ ns) = cells (walk g depth 0 i n) ++ rowOf g i ns
 
 -- the answer for the numbers, and what becomes of a buffer: a row that is done is over its front
-pub record RowOver (g : Grammar) (i : ℕ) (ns old last : List ℕ) (r : Row) : Type 0 where
+pub record RowOver (g : ℕ → Rule) (i : ℕ) (ns old last : List ℕ) (r : Row) : Type 0 where
   pub is : r ≡ inTurn g i (length old) ns
   pub long : length last ≡ length old
   pub holds : (m c : ℕ) → r ≡ Done m c → last ≡ over (rowOf g i ns) old
 
 -- 11, then the items
 unfoldable pub writesRowPlanned : List ℕ → List ℕ → ℕ → ℕ → List ℕ → Row
-writesRowPlanned t p i room ns = pick (ltb i (nodes t)) (inTurn (grammarOf t p) i room ns) (Refused NoSuchStart 0 0)
+writesRowPlanned t p i room ns = pick (ltb i (nodes t)) (inTurn (rulesOf t p) i room ns) (Refused NoSuchStart 0 0)
 
 unfoldable pub writesRow : List ℕ → List ℕ → ℕ → ℕ → List ℕ → Row
 writesRow t p i room ns = judged (verdict t p) (writesRowPlanned t p i room ns)
 
 pub record WroteRow (t p : List ℕ) (i : ℕ) (ns old last : List ℕ) (r : Row) : Type 0 where
   pub is : r ≡ writesRow t p i (length old) ns
-  pub holds : last ≡ leaves r (rowOf (grammarOf t p) i ns) old
+  pub holds : last ≡ leaves r (rowOf (rulesOf t p) i ns) old
 
 -- of an accepted table
 pub record WroteRowPlanned (t p : List ℕ) (i : ℕ) (ns old last : List ℕ) (r : Row) : Type 0 where
   pub is : r ≡ writesRowPlanned t p i (length old) ns
-  pub holds : last ≡ leaves r (rowOf (grammarOf t p) i ns) old
+  pub holds : last ≡ leaves r (rowOf (rulesOf t p) i ns) old

@@ -1,9 +1,10 @@
 // From a row of cells to numbers.
 ghost use mathlib.Core.Path.{_≡_};
 ghost use lib.ListN.{length, set};
-ghost use Rattle.visits.specs.Grammar.{planned};
+ghost use Rattle.grammar.specs.Plan.{ruleIn};
 ghost use Rattle.walk.specs.Filled.{over};
-ghost use Rattle.checked.specs.Prepared.{Blank, Planning, Stands};
+ghost use Rattle.checked.specs.Prepared.{Blank, Planning};
+ghost use Rattle.walk.specs.Plan.{Reading};
 ghost use Rattle.checked.specs.Kept.{Kept};
 ghost use Rattle.rows.specs.ReadRow.{gather, Gathers, gotten, NumbersOver, GotRow, GotRowPlanned};
 use super::answer::Row;
@@ -42,8 +43,8 @@ fn gather_row(
     room: usize,
     out: &mut [u64],
 ) -> Row
-    requires { ⌜ Stands (now plan) (now pool) start ⌝ }
-    ensures { λ r. ⌜ NumbersOver (planned (now (plan .entry)) (now (pool .entry))) start room (now (cells .entry)) (now (out .entry)) (now (out .exit)) r ⌝ }
+    requires { ⌜ Reading (now plan) (now pool) start ⌝ }
+    ensures { λ r. ⌜ NumbersOver (ruleIn (now (plan .entry)) (now (pool .entry))) start room (now (cells .entry)) (now (out .entry)) (now (out .exit)) r ⌝ }
 {
     let mut at: usize = 0;
     let mut items: usize = 0;
@@ -75,10 +76,10 @@ fn settle_numbers(
     count: usize,
     numbers: &mut [u64],
 )
-    requires { ⌜ Stands (now plan) (now pool) start ⌝ }
-    requires { ⌜ Gathers (gather (planned (now plan) (now pool)) start (length (now numbers)) (now cells)) ⌝ }
-    requires { ⌜ Kept (gotten (gather (planned (now plan) (now pool)) start (length (now numbers)) (now cells))) (now kept) count (length (now numbers)) ⌝ }
-    ensures { λ _. ⌜ now (numbers .exit) ≡ over (gotten (gather (planned (now (plan .entry)) (now (pool .entry))) start (length (now (numbers .entry))) (now (cells .entry)))) (now (numbers .entry)) ⌝ }
+    requires { ⌜ Reading (now plan) (now pool) start ⌝ }
+    requires { ⌜ Gathers (gather (ruleIn (now plan) (now pool)) start (length (now numbers)) (now cells)) ⌝ }
+    requires { ⌜ Kept (gotten (gather (ruleIn (now plan) (now pool)) start (length (now numbers)) (now cells))) (now kept) count (length (now numbers)) ⌝ }
+    ensures { λ _. ⌜ now (numbers .exit) ≡ over (gotten (gather (ruleIn (now (plan .entry)) (now (pool .entry))) start (length (now (numbers .entry))) (now (cells .entry)))) (now (numbers .entry)) ⌝ }
 {
     if count <= kept.len() {
         copy(kept, count, numbers);

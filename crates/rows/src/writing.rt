@@ -1,7 +1,8 @@
 // From numbers to a row of cells.
 ghost use mathlib.Core.Path.{_≡_};
-ghost use Rattle.visits.specs.Grammar.{planned};
-ghost use Rattle.checked.specs.Prepared.{Blank, Planning, Stands};
+ghost use Rattle.grammar.specs.Plan.{ruleIn};
+ghost use Rattle.checked.specs.Prepared.{Blank, Planning};
+ghost use Rattle.walk.specs.Plan.{Reading};
 ghost use Rattle.rows.specs.WriteRow.{inTurn, RowOver, WroteRow, WroteRowPlanned};
 use super::answer::Row;
 use checked::decided::decided;
@@ -17,8 +18,8 @@ use grammar::refusal::Verdict;
 // "items in order; the first that is refused stops the call": the first pass decides, and is lent no cell
 // that it could write.
 fn decide_row(plan: &[u64], pool: &[u64], start: usize, numbers: &[u64], room: usize) -> Row
-    requires { ⌜ Stands (now plan) (now pool) start ⌝ }
-    ensures { λ r. ⌜ r ≡ inTurn (planned (now (plan .entry)) (now (pool .entry))) start room (now (numbers .entry)) ⌝ }
+    requires { ⌜ Reading (now plan) (now pool) start ⌝ }
+    ensures { λ r. ⌜ r ≡ inTurn (ruleIn (now (plan .entry)) (now (pool .entry))) start room (now (numbers .entry)) ⌝ }
 {
     let mut item: usize = 0;
     let mut used: usize = 0;
@@ -38,8 +39,8 @@ fn decide_row(plan: &[u64], pool: &[u64], start: usize, numbers: &[u64], room: u
 
 // The second pass writes each case into what the ones before it leave of the buffer.
 fn lay_row(plan: &[u64], pool: &[u64], start: usize, numbers: &[u64], cells: &mut [u64]) -> Row
-    requires { ⌜ Stands (now plan) (now pool) start ⌝ }
-    ensures { λ r. ⌜ RowOver (planned (now (plan .entry)) (now (pool .entry))) start (now (numbers .entry)) (now (cells .entry)) (now (cells .exit)) r ⌝ }
+    requires { ⌜ Reading (now plan) (now pool) start ⌝ }
+    ensures { λ r. ⌜ RowOver (ruleIn (now (plan .entry)) (now (pool .entry))) start (now (numbers .entry)) (now (cells .entry)) (now (cells .exit)) r ⌝ }
 {
     let mut items: usize = 0;
     let mut used: usize = 0;

@@ -16,10 +16,10 @@ use Rattle.grammar.specs.declared.refusal.Refusal.{Refusal}
 use Rattle.grammar.specs.declared.refusal.Refusal.the-variants.{NoSuchStart, NotACase, NumberTooLarge}
 use Rattle.grammar.specs.declared.refusal.Verdict.{Verdict}
 use Rattle.grammar.specs.declared.refusal.Verdict.the-variants.{Accepted, Refused as Refuses}
-use Rattle.visits.specs.Grammar.{planned}
+use Rattle.grammar.specs.Plan.{ruleIn}
 use Rattle.walk.specs.Walk.{depth}
 use Rattle.walk.specs.Room.{most}
-use Rattle.visits.specs.Reading.{Read, taken}
+use Rattle.walk.specs.Run.{Read, run}
 use Rattle.visits.specs.Got.{Took}
 use Rattle.visits.specs.declared.number.Got.{Got}
 use Rattle.visits.specs.declared.number.Got.the-variants.{Number as Read-number, Big, Wrong}
@@ -64,7 +64,7 @@ module _ {t p plan : List ℕ} (h : Planning t p plan) (i : ℕ) where
   found-11 cs l = rw (le-ltb i (nodes t) l)
 
   module _ (l : i < nodes t) where
-    pub found-is : (cs : List ℕ) {r : Found} → r ≡ found (taken (planned plan p) depth i 0 most cs) → r ≡ finds t p i cs
+    pub found-is : (cs : List ℕ) {r : Found} → r ≡ found (run (ruleIn plan p) depth 0 i most cs) → r ≡ finds t p i cs
     unfolding finds
     found-is cs e = e ∙ rw (lt-ltb i (nodes t) l, same-grammar h)
 

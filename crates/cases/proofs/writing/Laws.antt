@@ -16,7 +16,8 @@ use Rattle.grammar.specs.declared.refusal.Refusal.{Refusal}
 use Rattle.grammar.specs.declared.refusal.Refusal.the-variants.{NoSuchStart}
 use Rattle.grammar.specs.declared.refusal.Verdict.{Verdict}
 use Rattle.grammar.specs.declared.refusal.Verdict.the-variants.{Accepted, Refused as Refuses}
-use Rattle.visits.specs.Grammar.{Grammar, planned}
+use Rattle.grammar.specs.Rule.{Rule}
+use Rattle.grammar.specs.Plan.{ruleIn}
 use Rattle.walk.specs.Walk.{walk, cells, depth}
 use Rattle.walk.specs.Sure.{Sure}
 use Rattle.checked.specs.Prepared.{Planning, Prepared}
@@ -40,11 +41,11 @@ module _ {g : Grammar} {i n : ℕ} {old last : List ℕ} {f : Fit} (e : FitOver 
   case-not s {r} q = record { is = ap wrote (sym q ∙ e .is); holds = e .kept (s r (sym (e .is) ∙ q)) }
 
 pub case-long : {g : Grammar} {i n : ℕ} {old last : List ℕ} {r : Written} → WroteCase g i n old last r → length last ≡ length old
-case-long {g} {i} {n} {old} {r = Done k} w = over-long (cells (walk g depth i n)) old (w .holds)
+case-long {g} {i} {n} {old} {r = Done k} w = over-long (cells (walk g depth 0 i n)) old (w .holds)
 case-long {r = Refused r k} w = ap length (w .holds)
 
 -- ---- the first pass: a number whose cells are counted is settled
-pub settled-cells : (g : Grammar) (i n room : ℕ) {f : Fit} → f ≡ fitted g i n room → {k : ℕ} → f ≡ Cells k → Settled g i n room
+pub settled-cells : (g : ℕ → Rule) (i n room : ℕ) {f : Fit} → f ≡ fitted g i n room → {k : ℕ} → f ≡ Cells k → Settled g i n room
 settled-cells g i n room e q = λ r u. let z : _≡_ {A = ℕ} 0 1 = cc in absurd (omega arith)
 
 module _ {t p plan : List ℕ} (h : Planning t p plan) (i n : ℕ) (old : List ℕ) where
@@ -54,26 +55,26 @@ module _ {t p plan : List ℕ} (h : Planning t p plan) (i n : ℕ) (old : List �
 
   module _ (l : i < nodes t) where
     -- where every case fits, the only refusal is 12
-    pub settled-sure : {room : ℕ} → room ≡ roomFor (length old) → Sure plan i room → Settled (planned plan p) i n (length old)
-    settled-sure m s r q = by (asked (planned plan p .size i) n) refl
+    pub settled-sure : {room : ℕ} → room ≡ roomFor (length old) → Sure plan i room → Settled (ruleIn plan p) i n (length old)
+    settled-sure m s r q = by (asked (ruleIn plan p i .size) n) refl
       where
-        by : (b : Bool) → asked (planned plan p .size i) n ≡ b → asked (planned plan p .size i) n ≡ false
+        by : (b : Bool) → asked (ruleIn plan p i .size) n ≡ b → asked (ruleIn plan p i .size) n ≡ false
         by false u = u
         by true u =
-            let a = was-asked (planned plan p .size i) n u in
+            let a = was-asked (ruleIn plan p i .size) n u in
             let w = s .fits p n (record { walks = walkable h; node = l; below = a .below }) in
-            let k : fitted (planned plan p) i n (length old) ≡ Cells (length (w .case)) = fitted-is (planned plan p) i n (length old) (w .case) a (w .shows) (omega (arith, w .few, m)) in
+            let k : fitted (ruleIn plan p) i n (length old) ≡ Cells (length (w .case)) = fitted-is (ruleIn plan p) i n (length old) (w .case) a (w .shows) (omega (arith, w .few, m)) in
             let z : _≡_ {A = ℕ} 0 1 = cc in
             absurd (omega arith)
 
-    walks-is : walks t p i n (length old) ≡ wrote (fitted (planned plan p) i n (length old))
+    walks-is : walks t p i n (length old) ≡ wrote (fitted (ruleIn plan p) i n (length old))
     unfolding walks
     walks-is = rw (lt-ltb i (nodes t) l, same-grammar h)
 
-    pub wrote-case : {last : List ℕ} {r : Written} → WroteCase (planned plan p) i n old last r → WrotePlanned t p i n old last r
+    pub wrote-case : {last : List ℕ} {r : Written} → WroteCase (ruleIn plan p) i n old last r → WrotePlanned t p i n old last r
     wrote-case w = record { is = w .is ∙ sym walks-is; holds = rw (← same-grammar h) (w .holds) }
 
-    pub wrote-not : {f : Fit} → f ≡ fitted (planned plan p) i n (length old) → {r : Refusal} → f ≡ Not r → WrotePlanned t p i n old old (Refused r 0)
+    pub wrote-not : {f : Fit} → f ≡ fitted (ruleIn plan p) i n (length old) → {r : Refusal} → f ≡ Not r → WrotePlanned t p i n old old (Refused r 0)
     wrote-not e q = record { is = ap wrote (sym q ∙ e) ∙ sym walks-is; holds = refl }
 
 -- ---- the call
@@ -84,4 +85,4 @@ module _ {t p plan : List ℕ} {v : Verdict} (h : Prepared t p plan v) {i n : �
 
   pub wrote-planned : v ≡ Accepted → {last : List ℕ} {w : Written} → WrotePlanned t p i n old last w → Wrote t p i n old last w
   unfolding writes
-  wrote-planned e g = record { is = rw (← h .is, e) (g .is); holds = g .holds }
+  wrote-ruleIn e g = record { is = rw (← h .is, e) (g .is); holds = g .holds }

@@ -15,7 +15,8 @@ use Rattle.grammar.specs.declared.refusal.Refusal.{Refusal}
 use Rattle.grammar.specs.declared.refusal.Refusal.the-variants.{NoSuchStart}
 use Rattle.grammar.specs.declared.refusal.Verdict.{Verdict}
 use Rattle.grammar.specs.declared.refusal.Verdict.the-variants.{Accepted, Refused as Refuses}
-use Rattle.visits.specs.Grammar.{Grammar, planned}
+use Rattle.grammar.specs.Rule.{Rule}
+use Rattle.grammar.specs.Plan.{ruleIn}
 use Rattle.checked.specs.Prepared.{Planning, Prepared}
 use Rattle.checked.specs.Item.{front, Stood}
 use Rattle.checked.specs.declared.item.Item.{Item as Standing}
@@ -27,7 +28,7 @@ use Rattle.rows.specs.declared.reader.Next.the-variants.{Item, End, Refu
 use Rattle.rows.specs.declared.reader.Stride.{Stride}
 use Rattle.rows.proofs.Gathering.{stood}
 
-pub next-some : (g : Grammar) (i : ℕ) (cs : List ℕ) → 0 < length cs → next g i cs ≡ handed (length cs) (front g i cs)
+pub next-some : (g : ℕ → Rule) (i : ℕ) (cs : List ℕ) → 0 < length cs → next g i cs ≡ handed (length cs) (front g i cs)
 unfolding next
 next-some g i [] l = absurd (not-suc-le-zero l)
 next-some g i (c ∷ cs) l = refl
@@ -42,7 +43,7 @@ module _ {t p plan : List ℕ} (h : Planning t p plan) (i : ℕ) (row : List ℕ
   next-11 l = strides (rw (le-ltb i (nodes t) l)) refl
 
   module _ (l : i < nodes t) where
-    planned-is : nextPlanned t p i row at ≡ next (planned plan p) i (drop at row)
+    planned-is : nextPlanned t p i row at ≡ next (ruleIn plan p) i (drop at row)
     unfolding nextPlanned
     planned-is = rw (lt-ltb i (nodes t) l, same-grammar h)
 
@@ -50,9 +51,9 @@ module _ {t p plan : List ℕ} (h : Planning t p plan) (i : ℕ) (row : List ℕ
     unfolding next
     next-end k = strides (planned-is ∙ rw (drop-of-length-le row {i = at} k)) refl
 
-    module _ (k : at < length row) {r : Standing} (w : Stood (front (planned plan p) i (drop at row)) row at r) where
-      is-handed : nextPlanned t p i row at ≡ handed (length (drop at row)) (front (planned plan p) i (drop at row))
-      is-handed = planned-is ∙ next-some (planned plan p) i (drop at row) (omega (arith, length-drop at row))
+    module _ (k : at < length row) {r : Standing} (w : Stood (front (ruleIn plan p) i (drop at row)) row at r) where
+      is-handed : nextPlanned t p i row at ≡ handed (length (drop at row)) (front (ruleIn plan p) i (drop at row))
+      is-handed = planned-is ∙ next-some (ruleIn plan p) i (drop at row) (omega (arith, length-drop at row))
 
       pub next-item : {n to : ℕ} → r ≡ Number n to → record { answer = Item n (to - at); at = to } ≡ stridePlanned t p i row at
       next-item {n} {to} q =
@@ -74,4 +75,4 @@ module _ {t p plan : List ℕ} {v : Verdict} (h : Prepared t p plan v) (i : ℕ)
 
   pub next-planned : v ≡ Accepted → {s : Stride} → s ≡ stridePlanned t p i row at → s ≡ strideOf t p i row at
   unfolding nextOf
-  next-planned e f = rw (← h .is, e) f
+  next-ruleIn e f = rw (← h .is, e) f

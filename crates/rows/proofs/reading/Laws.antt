@@ -14,7 +14,7 @@ use Rattle.grammar.specs.declared.refusal.Refusal.{Refusal}
 use Rattle.grammar.specs.declared.refusal.Refusal.the-variants.{NoSuchStart}
 use Rattle.grammar.specs.declared.refusal.Verdict.{Verdict}
 use Rattle.grammar.specs.declared.refusal.Verdict.the-variants.{Accepted, Refused as Refuses}
-use Rattle.visits.specs.Grammar.{planned}
+use Rattle.grammar.specs.Plan.{ruleIn}
 use Rattle.walk.specs.Filled.{over}
 use Rattle.checked.specs.Prepared.{Planning, Prepared}
 use Rattle.checked.specs.Kept.{Kept}
@@ -34,7 +34,7 @@ module _ {t p plan : List ℕ} (h : Planning t p plan) (i : ℕ) (cs old : List 
   unfolding readsRowPlanned
   got-11 l = record { is = rw (le-ltb i (nodes t) l); holds = refl }
 
-  module _ (l : i < nodes t) {r : Row} (e : r ≡ answered (length cs) (gather (planned plan p) i (length old) cs)) where
+  module _ (l : i < nodes t) {r : Row} (e : r ≡ answered (length cs) (gather (ruleIn plan p) i (length old) cs)) where
     got-is : readsRowPlanned t p i (length old) cs ≡ r
     unfolding readsRowPlanned
     got-is = rw (lt-ltb i (nodes t) l, e, same-grammar h)
@@ -43,17 +43,17 @@ module _ {t p plan : List ℕ} (h : Planning t p plan) (i : ℕ) (cs old : List 
     got-not q = record { is = sym (got-is ∙ q); holds = refl }
 
     module _ {m c : ℕ} (q : r ≡ Done m c) where
-      pub gathers-of : Gathers (gather (planned plan p) i (length old) cs)
-      gathers-of = answered-done (length cs) (gather (planned plan p) i (length old) cs) (sym e ∙ q)
+      pub gathers-of : Gathers (gather (ruleIn plan p) i (length old) cs)
+      gathers-of = answered-done (length cs) (gather (ruleIn plan p) i (length old) cs) (sym e ∙ q)
 
-      pub got-kept : (first : List ℕ) {kept : List ℕ} → kept ≡ over (gotten (gather (planned plan p) i (length old) cs)) first → Kept (gotten (gather (planned plan p) i (length old) cs)) kept m (length old)
+      pub got-kept : (first : List ℕ) {kept : List ℕ} → kept ≡ over (gotten (gather (ruleIn plan p) i (length old) cs)) first → Kept (gotten (gather (ruleIn plan p) i (length old) cs)) kept m (length old)
       got-kept first g =
           let a = gathers-of in
           let f : Done (length (a .ns)) (length cs) ≡ Done m c = ap (answered (length cs)) (sym (a .is)) ∙ sym e ∙ q in
           let s : length (a .ns) ≡ m = cc in
-          record { old = first; holds = g; many = ap (λ (x : Gathered). length (gotten x)) (a .is) ∙ s; fits = omega (arith, gathered-fits (planned plan p) i (length old) cs (a .is), s) }
+          record { old = first; holds = g; many = ap (λ (x : Gathered). length (gotten x)) (a .is) ∙ s; fits = omega (arith, gathered-fits (ruleIn plan p) i (length old) cs (a .is), s) }
 
-      pub got-numbers : {last : List ℕ} → last ≡ over (gotten (gather (planned plan p) i (length old) cs)) old → GotRowPlanned t p i cs old last (Done m c)
+      pub got-numbers : {last : List ℕ} → last ≡ over (gotten (gather (ruleIn plan p) i (length old) cs)) old → GotRowPlanned t p i cs old last (Done m c)
       got-numbers f = record { is = sym (got-is ∙ q); holds = rw (← same-grammar h) f }
 
 -- ---- the call
@@ -64,4 +64,4 @@ module _ {t p plan : List ℕ} {v : Verdict} (h : Prepared t p plan v) {i : ℕ}
 
   pub got-planned : v ≡ Accepted → {last : List ℕ} {r : Row} → GotRowPlanned t p i cs old last r → GotRow t p i cs old last r
   unfolding readsRow
-  got-planned e g = record { is = rw (← h .is, e) (g .is); holds = g .holds }
+  got-ruleIn e g = record { is = rw (← h .is, e) (g .is); holds = g .holds }

@@ -13,7 +13,7 @@ use Rattle.grammar.specs.declared.refusal.Refusal.{Refusal}
 use Rattle.grammar.specs.declared.refusal.Refusal.the-variants.{NoSuchStart}
 use Rattle.grammar.specs.declared.refusal.Verdict.{Verdict}
 use Rattle.grammar.specs.declared.refusal.Verdict.the-variants.{Accepted, Refused as Refuses}
-use Rattle.visits.specs.Grammar.{planned}
+use Rattle.grammar.specs.Plan.{ruleIn}
 use Rattle.checked.specs.Prepared.{Planning, Prepared}
 use Rattle.checked.proofs.Walking.{same-grammar}
 use Rattle.rows.specs.WriteRow.{inTurn, RowOver, writesRowPlanned, writesRow, WroteRow, WroteRowPlanned}
@@ -25,7 +25,7 @@ module _ {t p plan : List ℕ} (h : Planning t p plan) (i : ℕ) (ns old : List 
   unfolding writesRowPlanned
   row-11 l = record { is = rw (le-ltb i (nodes t) l); holds = refl }
 
-  module _ (l : i < nodes t) {r : Row} (e : r ≡ inTurn (planned plan p) i (length old) ns) where
+  module _ (l : i < nodes t) {r : Row} (e : r ≡ inTurn (ruleIn plan p) i (length old) ns) where
     row-is : writesRowPlanned t p i (length old) ns ≡ r
     unfolding writesRowPlanned
     row-is = rw (lt-ltb i (nodes t) l, e, same-grammar h)
@@ -34,7 +34,7 @@ module _ {t p plan : List ℕ} (h : Planning t p plan) (i : ℕ) (ns old : List 
     row-not q = record { is = sym (row-is ∙ q); holds = refl }
 
     -- the second pass answers as the first
-    pub row-done : {m c : ℕ} → r ≡ Done m c → {last : List ℕ} {x : Row} → RowOver (planned plan p) i ns old last x → WroteRowPlanned t p i ns old last x
+    pub row-done : {m c : ℕ} → r ≡ Done m c → {last : List ℕ} {x : Row} → RowOver (ruleIn plan p) i ns old last x → WroteRowPlanned t p i ns old last x
     row-done {m} {c} q {x = x} f =
         let d : x ≡ Done m c = f .is ∙ sym e ∙ q in
         rw d (record { is = sym (row-is ∙ q); holds = rw (← same-grammar h) (f .holds m c d) })
@@ -47,4 +47,4 @@ module _ {t p plan : List ℕ} {v : Verdict} (h : Prepared t p plan v) {i : ℕ}
 
   pub row-planned : v ≡ Accepted → {last : List ℕ} {r : Row} → WroteRowPlanned t p i ns old last r → WroteRow t p i ns old last r
   unfolding writesRow
-  row-planned e g = record { is = rw (← h .is, e) (g .is); holds = g .holds }
+  row-ruleIn e g = record { is = rw (← h .is, e) (g .is); holds = g .holds }

@@ -4,13 +4,13 @@ use borrow.Author.Needs.{needs}
 use Prim.Native.Nat.{_-_}
 use native.Mathlib.Omega.{arith}
 use lib.ListN.{length}
-use Rattle.visits.specs.Grammar.{planned}
+use Rattle.grammar.specs.Plan.{ruleIn}
 use Rattle.rows.proofs.Turns.{Tallying, tallying-none, tallying-fits, tallying-more, tallying-stops, tallying-done}
 use Rattle.rows.proofs.writing.decide_row.Statement.{statement}
 use Rattle.rows.proofs.writing.decide_row.Tie as tie
 
 abbrev Inv-loop : tie.InvT-loop
-Inv-loop plan pool start numbers room item₀ used₀ item used = Tallying (planned plan pool) start room numbers item used
+Inv-loop plan pool start numbers room item₀ used₀ item used = Tallying (ruleIn plan pool) start room numbers item used
 
 abbrev μ-loop : tie.MeasureT-loop
 μ-loop plan pool start numbers room item₀ used₀ item used = length numbers - item

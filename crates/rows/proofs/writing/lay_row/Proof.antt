@@ -5,13 +5,13 @@ use mathlib.Core.Path.{refl}
 use Prim.Native.Nat.{_-_}
 use native.Mathlib.Omega.{arith}
 use lib.ListN.{length}
-use Rattle.visits.specs.Grammar.{planned}
+use Rattle.grammar.specs.Plan.{ruleIn}
 use Rattle.rows.proofs.Turns.{Laying, laying-none, laying-long, laying-within, laying-fits, laying-more, laying-stops, laying-done}
 use Rattle.rows.proofs.writing.lay_row.Statement.{statement}
 use Rattle.rows.proofs.writing.lay_row.Tie as tie
 
 abbrev Inv-loop : tie.InvT-loop
-Inv-loop plan pool start numbers cells₀ items₀ used₀ cells items used = Laying (planned plan pool) start numbers cells₀ cells items used
+Inv-loop plan pool start numbers cells₀ items₀ used₀ cells items used = Laying (ruleIn plan pool) start numbers cells₀ cells items used
 
 abbrev μ-loop : tie.MeasureT-loop
 μ-loop plan pool start numbers cells₀ items₀ used₀ cells items used = length numbers - items
