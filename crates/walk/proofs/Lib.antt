@@ -15,3 +15,4 @@ pub mod Cells
 pub mod Takes
 pub mod Trees
 pub mod Leaves
+pub mod Sures
