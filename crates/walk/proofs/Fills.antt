@@ -1,5 +1,7 @@
 -- A fill of a buffer, and of the part that it left.
---   then        one list over the front, and then another over what is left, is their sum over the front
+--   length-over, over-front, over-back, over-is, over-append   a list over a buffer's front
+--   part-old, part-rest   the part from a place on, and what lies after it
+--   then           one list over the front, and then another over what is left, is their sum over the front
 --   nothing        a fill of no words
 --   same, within   the buffer keeps its length, and the count is within it
 -- Assumes nothing.

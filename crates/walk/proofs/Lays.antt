@@ -72,9 +72,15 @@ module _ {xs ys : List Event} {old mid lent last : List ℕ} {w k : ℕ} {b : Ro
 
   two-long : length together ≡ length old
   two-long = omega (
-    arith, h .long, g .long, ap length part-is, length-drop k mid, length-take k mid,
+    arith,
+    h .long,
+    g .long,
+    ap length part-is,
+    length-drop k mid,
+    length-take k mid,
     length-append (take k mid) (last ++ drop (length mid - k) (drop k mid)),
-    length-append last (drop (length mid - k) (drop k mid)), ap length (part-rest k mid),
+    length-append last (drop (length mid - k) (drop k mid)),
+    ap length (part-rest k mid),
   )
 
   two-holds : {m : ℕ} → b ≡ Left m → together ≡ over (cells (xs ++ ys)) old

@@ -16,3 +16,4 @@ pub mod Takes
 pub mod Trees
 pub mod Leaves
 pub mod Sures
+pub mod Plans

@@ -137,17 +137,17 @@ module _ (g : ℕ → Rule) (i off : ℕ) {d : ℕ} {row : List ℕ} {at : ℕ} 
           at-limit o =
               part-then t h (omega arith)
               (λ m same above.
-                  let z : l ≤ m = above big in
-                  let ne : m ≡ b → ⊥ = λ q. omega arith in
-                  rw (ne-eqb m b ne) (taken-large (omega (arith, Excepts.join-least b m .0)) (h .inside (omega arith))))
+              let z : l ≤ m = above big in
+              let ne : m ≡ b → ⊥ = λ q. omega arith in
+              rw (ne-eqb m b ne) (taken-large (omega (arith, Excepts.join-least b m .0)) (h .inside (omega arith))))
 
       pub except-number : x < 2 ^ 63 → (x ≡ b → ⊥) → {l' : ℕ} → l' ≤ limit → {w : ℕ} → w ≡ wordOf (capped (Except.join b x)) → Taken l' (run g d off i) row at e w
       unfolding follow
       except-number s ne {l'} hi {w} q =
           part-then t h (omega arith)
           (λ m same above.
-              let o : (m ≡ b → ⊥) = λ z. ne (sym (same s) ∙ z) in
-              rw (ne-eqb m b o) (taken-number (Except.join b m) hi (h .inside (omega arith)) (subst (λ (n : ℕ). w ≡ wordOf (capped (Except.join b n))) (sym (same s)) q)))
+          let o : (m ≡ b → ⊥) = λ z. ne (sym (same s) ∙ z) in
+          rw (ne-eqb m b o) (taken-number (Except.join b m) hi (h .inside (omega arith)) (subst (λ (n : ℕ). w ≡ wordOf (capped (Except.join b n))) (sym (same s)) q)))
 
     -- ---- a part, and a second one: c m is its node, J m n the whole number
     module _ {a : ℕ} {c : ℕ → ℕ} {J : ℕ → ℕ → ℕ} (t : g i .tree ≡ reads a 0 (λ m. reads (c m) 0 (λ n. done (J m n)))) {e x l : ℕ}
@@ -163,7 +163,7 @@ module _ (g : ℕ → Rule) (i off : ℕ) {d : ℕ} {row : List ℕ} {at : ℕ} 
         two-then {w} o =
             part-then t h s
             (λ m same above.
-                subst (λ (p : ℕ). Taken l' (λ q cs. then (run g (d - 1) 0 p q cs) (λ n. read (J m n))) row e next w) (sym (node m same)) (o m same above))
+            subst (λ (p : ℕ). Taken l' (λ q cs. then (run g (d - 1) 0 p q cs) (λ n. read (J m n))) row e next w) (sym (node m same)) (o m same above))
 
         pub two-stays : 2 ^ 63 ≤ y → Taken l' (run g d off i) row at next y
         two-stays b = two-then (λ m same above. last-stays k (J m) (λ n. least m same n .1) le b)

@@ -14,7 +14,19 @@ use Rattle.walk.proofs.Visit.{walk-deep, walk-cell, walk-word, walk-pas
 use Rattle.walk.proofs.Nodes.{in-plan, known, shift-small, shift-raised, or-lower, cons-lower, parts-in, words-some, raised-none, raised-zero}
 use Rattle.walk.proofs.Deps.{dep-in}
 use Rattle.walk.proofs.Items.{
-  below-items, nats-items, pool-items, pool-place, shift-items, or-first, or-second, cons-items, dep-items, dep-place, except-items, fix-items, again-items,
+  below-items,
+  nats-items,
+  pool-items,
+  pool-place,
+  shift-items,
+  or-first,
+  or-second,
+  cons-items,
+  dep-items,
+  dep-place,
+  except-items,
+  fix-items,
+  again-items,
 }
 use Rattle.walk.proofs.Calls.{laid-by, lay-part, lay-shift, lay-tagged, lay-both}
 use Rattle.walk.proofs.lay.both.Reads as both
@@ -64,8 +76,22 @@ module _ (t : ℕ) where
 
   abbrev calls : lay-lts.Claims
   calls = (
-    put-reads.Asked, put-reads.Learnt, lay-below, lay.Post, or-split-reads.Asked, or-split-reads.Learnt, tagged-below, tagged.Post,
-    cons-split-reads.Asked, cons-split-reads.Learnt, both-below, both.Post, parts-reads.Asked, parts-reads.Learnt, split-reads.Asked, split-reads.Learnt,
+    put-reads.Asked,
+    put-reads.Learnt,
+    lay-below,
+    lay.Post,
+    or-split-reads.Asked,
+    or-split-reads.Learnt,
+    tagged-below,
+    tagged.Post,
+    cons-split-reads.Asked,
+    cons-split-reads.Learnt,
+    both-below,
+    both.Post,
+    parts-reads.Asked,
+    parts-reads.Learnt,
+    split-reads.Asked,
+    split-reads.Learnt,
   )
 
   -- the first part's walk, and then the second's over what is left; and a tag, and then a part's

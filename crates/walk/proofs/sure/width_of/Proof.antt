@@ -4,7 +4,16 @@ use mathlib.Core.Path.{refl}
 use native.Mathlib.Omega.{arith}
 use borrow.Author.Needs.{needs}
 use Rattle.walk.proofs.Sures.{
-  of-part, width-none, width-below, width-nats, width-pool, width-shift, width-or, width-cons, width-except, width-fix,
+  of-part,
+  width-none,
+  width-below,
+  width-nats,
+  width-pool,
+  width-shift,
+  width-or,
+  width-cons,
+  width-except,
+  width-fix,
 }
 use Rattle.walk.proofs.sure.width_of.Statement.{statement}
 use Rattle.walk.proofs.sure.width_of.Tie as tie

@@ -12,7 +12,18 @@ use Rattle.walk.proofs.Visit.{walk-deep, walk-cell, walk-pass, walk-tag
 use Rattle.walk.proofs.Nodes.{in-plan, known, or-lower, cons-lower, parts-in, words-some}
 use Rattle.walk.proofs.Deps.{dep-in}
 use Rattle.walk.proofs.Items.{
-  below-items, nats-items, pool-items, shift-items, or-first, or-second, cons-items, dep-items, dep-place, except-items, fix-items, again-items,
+  below-items,
+  nats-items,
+  pool-items,
+  shift-items,
+  or-first,
+  or-second,
+  cons-items,
+  dep-items,
+  dep-place,
+  except-items,
+  fix-items,
+  again-items,
 }
 use Rattle.walk.proofs.Calls.{tally-by, tally-any, tally-up, tally-part, tally-tagged, tally-both}
 use Rattle.walk.proofs.tally.both.Reads as both
@@ -62,8 +73,22 @@ module _ (t : ℕ) where
 
   abbrev calls : tally-lts.Claims
   calls = (
-    one-reads.Asked, one-reads.Learnt, tally-below, tally.Post, or-split-reads.Asked, or-split-reads.Learnt, tagged-below, tagged.Post,
-    cons-split-reads.Asked, cons-split-reads.Learnt, both-below, both.Post, parts-reads.Asked, parts-reads.Learnt, split-reads.Asked, split-reads.Learnt,
+    one-reads.Asked,
+    one-reads.Learnt,
+    tally-below,
+    tally.Post,
+    or-split-reads.Asked,
+    or-split-reads.Learnt,
+    tagged-below,
+    tagged.Post,
+    cons-split-reads.Asked,
+    cons-split-reads.Learnt,
+    both-below,
+    both.Post,
+    parts-reads.Asked,
+    parts-reads.Learnt,
+    split-reads.Asked,
+    split-reads.Learnt,
   )
 
 pub +both+tagged+tally-spec : {M : Type 1} → statement M
