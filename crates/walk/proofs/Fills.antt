@@ -56,7 +56,8 @@ over-is (x ∷ new) [] = refl
 over-is (x ∷ new) (y ∷ old) = ap (λ (l : List ℕ). x ∷ l) (over-is new old)
 
 -- one list over the front, and then another over what is left, is their sum over the front
-pub over-append : (a b old : List ℕ) → over (a ++ b) old ≡ take (min (length a) (length old)) (over a old) ++ over b (drop (min (length a) (length old)) (over a old))
+pub over-append : (a b old : List ℕ)
+    → over (a ++ b) old ≡ take (min (length a) (length old)) (over a old) ++ over b (drop (min (length a) (length old)) (over a old))
 unfolding over
 over-append [] b old = rw none-min
 over-append (x ∷ a) b [] = simp (min-none, over-none)

@@ -81,7 +81,8 @@ unfolding ruleIn belowRule natsRule poolRule shiftRule orRule consRule depRule e
 trees-walk =
     plan-walks trees words 10
     (ten (λ i. Holds (kindIn (kindWord trees i) .checks (nodeIn trees words 10 i) (before (sizeIn trees) i)))
-    tt (refl, tt) (refl, (refl, tt)) (refl, (refl, (refl, tt))) (refl, (refl, tt)) (refl, (refl, tt)) (refl, (refl, (refl, (refl, (refl, (refl, tt)))))) (refl, (refl, (refl, tt))) (refl, tt) (refl, (refl, tt)))
+    tt (refl, tt) (refl, (refl, tt)) (refl, (refl, (refl, tt))) (refl, (refl, tt)) (refl, (refl, tt))
+    (refl, (refl, (refl, (refl, (refl, (refl, tt)))))) (refl, (refl, (refl, tt))) (refl, tt) (refl, (refl, tt)))
     (ten (λ i. sizeIn trees i ≡ ruleIn trees words i .size) refl refl refl refl refl refl refl refl refl refl)
     (ten (λ i. Fit (sizeIn trees i)) tt (omega arith, omega arith) (omega arith, omega arith) tt tt tt (omega arith, omega arith) tt tt tt)
     (omega arith) (omega arith) (omega arith)

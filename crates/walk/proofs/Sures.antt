@@ -52,7 +52,8 @@ Held plan h w [] = Unit {0}
 Held plan h w (own c ∷ is) = (v : ℕ) × (1 + v ≤ w) × Held plan h v is
 Held plan h w (part a m k ∷ is) = (u v : ℕ) × (u + v ≤ w) × Bounded plan a u h × Held plan h v is
 
-held-few : (plan p : List ℕ) (n h d : ℕ) → h ≤ d → (w up : ℕ) (is : List Item) → Held plan h w is → Each (Next plan p n) is → Few (shown (walk (ruleIn plan p) d) up is) w
+held-few : (plan p : List ℕ) (n h d : ℕ) → h ≤ d → (w up : ℕ) (is : List Item) → Held plan h w is → Each (Next plan p n) is
+    → Few (shown (walk (ruleIn plan p) d) up is) w
 unfolding shown
 held-few plan p n h d l w up [] k v = few-more (omega arith) few-none
 held-few plan p n h d l w up (own c ∷ is) k v = few-more (k .1) (few-cell (c + up) (held-few plan p n h d l (k .0) 0 is (k .2) v))
@@ -65,13 +66,15 @@ held-one {w = w} b = (w, 0, omega arith, b, tt)
 
 -- a width of node i, one higher than its parts'
 module _ {plan : List ℕ} {i w : ℕ} (h : ℕ) where
-  width-by : w ≤ wide → (w ≤ most → (p : List ℕ) (n : ℕ) → Visits plan p i n → (is : List Item) × (ruleIn plan p i .items n ≡ is) × Held plan h w is) → Width plan i w (h + 1)
+  width-by : w ≤ wide → (w ≤ most → (p : List ℕ) (n : ℕ) → Visits plan p i n → (is : List Item) × (ruleIn plan p i .items n ≡ is) × Held plan h w is)
+      → Width plan i w (h + 1)
   width-by l f = record {
     low = l;
     bounds = λ k. record {
       fits = λ p n up d v o.
           let s = f k p n v in
-          rw (walk-by (ruleIn plan p) i n up {d = d} (λ z. omega arith) (s .1)) (held-few plan p n h (d - 1) (omega arith) w up (s .0) (s .2) (next-by v (s .1)));
+          rw (walk-by (ruleIn plan p) i n up {d = d} (λ z. omega arith) (s .1))
+          (held-few plan p n h (d - 1) (omega arith) w up (s .0) (s .2) (next-by v (s .1)));
     };
   }
 
@@ -145,7 +148,8 @@ widths-more {plan} {widths} {k} {w} ws l x = record { long = length-set widths k
     by j (inr f) = rw (getD-set-other widths k j w wide f) (width-higher (omega arith) (ws .at j))
 
 -- a width that is known and fits the room, at a height that fits the depth
-pub sure-by : {plan widths : List ℕ} {h : ℕ} → Widths plan widths h → h ≤ depth → {i w room : ℕ} → i < 32 → w ≡ getD widths i 0 → (w ≡ wide → ⊥) → w ≤ room → Sure plan i room
+pub sure-by : {plan widths : List ℕ} {h : ℕ} → Widths plan widths h → h ≤ depth → {i w room : ℕ} → i < 32 → w ≡ getD widths i 0 → (w ≡ wide → ⊥)
+    → w ≤ room → Sure plan i room
 sure-by {plan} {widths} {h} ws l {i} {w} {room} k e f r =
     let x : Width plan i w h = rw (e, part-in widths i (omega (arith, ws .long))) (ws .at i) in
     record { fits = λ p n v. few-more r (x .bounds (omega (arith, x .low, f)) .fits p n 0 depth v l) }

@@ -108,37 +108,55 @@ module _ (t : ℕ) where
 pub +both+lay+tagged-spec : {M : Type 1} → statement M
 +both+lay+tagged-spec = close μ-both μ-lay μ-tagged
     (λ t. both-lts.spec (lay-below t, lay.Post) (both-at t) both.Post
-    (λ c κs.
-    let at-pre = c .before .before in
-    let p = at-pre .pre in
-    (omega (arith, p .0), ((p .1 .0 .0, raised-zero _ _), (p .1 .1 .0, omega (arith, p .1 .1 .2), p .1 .1 .2, p .1 .1 .3))))
+    (λ c κs. let at-pre = c .before .before in let p = at-pre .pre in (
+      omega (arith, p .0),
+      ((p .1 .0 .0, raised-zero _ _), (p .1 .1 .0, omega (arith, p .1 .1 .2), p .1 .1 .2, p .1 .1 .3)),
+    ))
     (λ c. c .before .before .before .lay .ensures .long)
     (λ c. laid-stops _ (c .before .before .before .lay .ensures) (c .if1 .taken))
-    (λ c.
-    let at-lay = c .before .before .before in
-    let at-pre = at-lay .before .before .before in
-    omega (arith, left-within _ (at-lay .lay .ensures .is) (c .if1 .left), at-lay .lay .ensures .long, at-pre .pre .1 .1 .3))
-    (λ c.
-    let at-lay = c .before .before .before in
-    let at-pre = at-lay .before .before .before in
-    omega (arith, left-within _ (at-lay .lay .ensures .is) (c .if1 .left), at-lay .lay .ensures .long, at-pre .pre .1 .1 .3))
-    (λ c.
-    let at-lay = c .before .before .before in
-    let at-pre = at-lay .before .before .before in
-    omega (arith, left-within _ (at-lay .lay .ensures .is) (c .if1 .left), at-lay .lay .ensures .long, at-pre .pre .1 .1 .3))
-    (λ c.
-    let at-lay = c .before .before .before in
-    let at-pre = at-lay .before .before .before in
-    omega (arith, left-within _ (at-lay .lay .ensures .is) (c .if1 .left), at-lay .lay .ensures .long, at-pre .pre .1 .1 .3))
-    (λ c.
-    let at-lay = c .before .before .before in
-    let at-pre = at-lay .before .before .before in
-    omega (arith, left-within _ (at-lay .lay .ensures .is) (c .if1 .left), at-lay .lay .ensures .long, at-pre .pre .1 .1 .3))
-    (λ c κs.
-    let at-lay = c .before .before .before .before in
-    let at-pre = at-lay .before .before .before in
-    let p = at-pre .pre in
-    (omega (arith, p .0), ((p .1 .0 .1, raised-zero _ _), (p .1 .1 .1, omega (arith, p .1 .1 .2), p .1 .1 .2, lent-most _ (at-lay .lay .ensures) (p .1 .1 .3)))))
+    (λ c. let at-lay = c .before .before .before in let at-pre = at-lay .before .before .before in omega (
+      arith,
+      left-within _
+          (at-lay .lay .ensures .is) (c .if1 .left),
+      at-lay .lay .ensures .long,
+      at-pre .pre .1 .1 .3,
+    ))
+    (λ c. let at-lay = c .before .before .before in let at-pre = at-lay .before .before .before in omega (
+      arith,
+      left-within _
+          (at-lay .lay .ensures .is) (c .if1 .left),
+      at-lay .lay .ensures .long,
+      at-pre .pre .1 .1 .3,
+    ))
+    (λ c. let at-lay = c .before .before .before in let at-pre = at-lay .before .before .before in omega (
+      arith,
+      left-within _
+          (at-lay .lay .ensures .is) (c .if1 .left),
+      at-lay .lay .ensures .long,
+      at-pre .pre .1 .1 .3,
+    ))
+    (λ c. let at-lay = c .before .before .before in let at-pre = at-lay .before .before .before in omega (
+      arith,
+      left-within _
+          (at-lay .lay .ensures .is) (c .if1 .left),
+      at-lay .lay .ensures .long,
+      at-pre .pre .1 .1 .3,
+    ))
+    (λ c. let at-lay = c .before .before .before in let at-pre = at-lay .before .before .before in omega (
+      arith,
+      left-within _
+          (at-lay .lay .ensures .is) (c .if1 .left),
+      at-lay .lay .ensures .long,
+      at-pre .pre .1 .1 .3,
+    ))
+    (λ c κs. let at-lay = c .before .before .before .before in let at-pre = at-lay .before .before .before in let p = at-pre .pre in (
+      omega
+          (arith, p .0),
+      (
+        (p .1 .0 .1, raised-zero _ _),
+        (p .1 .1 .1, omega (arith, p .1 .1 .2), p .1 .1 .2, lent-most _ (at-lay .lay .ensures) (p .1 .1 .3)),
+      ),
+    ))
     (λ c. both-two t c .long)
     (λ c. both-two t c))
     (λ t. lay-lts.spec (calls t) (lay-at t) lay.Post
@@ -158,221 +176,117 @@ pub +both+lay+tagged-spec : {M : Type 1} → statement M
     (λ c κs. c .before .before .before .before .before .before .before .before .pre .1 .1 .3)
     (λ c. let h = c .before .before .before .before .before .before .before .pre .1 .1 in omega (arith, h .0, h .1))
     (λ c κs. c .before .before .before .before .before .before .before .before .pre .1 .1 .3)
-    (λ c.
-    let at-match = c .before in
-    let at-pre = at-match .before .before .before .before .before .before .before in
-    let q = pool-place (at-pre .pre .1 .0 .0) (at-match .match .keys3) in
-    omega (arith, q .0, q .1))
-    (λ c.
-    let at-match = c .before in
-    let at-pre = at-match .before .before .before .before .before .before .before in
-    let q = pool-place (at-pre .pre .1 .0 .0) (at-match .match .keys3) in
-    omega (arith, q .0, q .1))
-    (λ c.
-    let at-match = c .before .before in
-    let at-pre = at-match .before .before .before .before .before .before .before in
-    let q = pool-place (at-pre .pre .1 .0 .0) (at-match .match .keys3) in
-    omega (arith, q .0, q .1))
+    (λ c. let at-match = c .before in let at-pre = at-match .before .before .before .before .before .before .before in
+    let q = pool-place (at-pre .pre .1 .0 .0) (at-match .match .keys3) in omega (arith, q .0, q .1))
+    (λ c. let at-match = c .before in let at-pre = at-match .before .before .before .before .before .before .before in
+    let q = pool-place (at-pre .pre .1 .0 .0) (at-match .match .keys3) in omega (arith, q .0, q .1))
+    (λ c. let at-match = c .before .before in let at-pre = at-match .before .before .before .before .before .before .before in
+    let q = pool-place (at-pre .pre .1 .0 .0) (at-match .match .keys3) in omega (arith, q .0, q .1))
     (λ c κs. c .before .before .before .before .before .before .before .before .before .before .pre .1 .1 .3)
-    (λ c.
-    let at-pre = c .before .before .before .before .before .before .before in
-    let h = at-pre .pre .1 .1 in
-    omega (arith, h .1, shift-small (visited (at-pre .pre .1 .0 .0)) (c .match .keys4)))
+    (λ c. let at-pre = c .before .before .before .before .before .before .before in let h = at-pre .pre .1 .1 in omega
+    (arith, h .1, shift-small (visited (at-pre .pre .1 .0 .0)) (c .match .keys4)))
     (λ c. omega (arith, c .before .before .before .before .before .if1 .left))
-    (λ c κs.
-    let at-match = c .before in
-    let at-if1 = at-match .before .before .before .before .before in
-    let at-pre = at-if1 .before .before in
-    lay-shift _ (at-pre .pre .0) (at-if1 .if1 .left) (at-pre .pre .1 .1)
-    (next-by (at-pre .pre .1 .0 .0) (shift-items (at-pre .pre .1 .0 .0) (at-match .match .keys4)) .0)
-    (shift-raised (visited (at-pre .pre .1 .0 .0)) (at-match .match .keys4) _)
-    (shift-small (visited (at-pre .pre .1 .0 .0)) (at-match .match .keys4)))
-    (λ c κs.
-    let at-pre = c .before .before .before .before .before .before .before in
-    parts-in (visited (at-pre .pre .1 .0 .0)) (or-lower (visited (at-pre .pre .1 .0 .0)) (c .match .keys5)))
+    (λ c κs. let at-match = c .before in let k = at-match .match .keys4 in let at-if1 = at-match .before .before .before .before .before in
+    let at-pre = at-if1 .before .before in let v = at-pre .pre .1 .0 .0 in lay-shift _ (at-pre .pre .0) (at-if1 .if1 .left)
+    (at-pre .pre .1 .1) (next-by v (shift-items v k) .0) (shift-raised (visited v) k _) (shift-small (visited v) k))
+    (λ c κs. let at-pre = c .before .before .before .before .before .before .before in let v = at-pre .pre .1 .0 .0 in parts-in (visited v)
+    (or-lower (visited v) (c .match .keys5)))
     (λ c. search needs)
     (λ c. omega (arith, c .before .before .before .before .before .before .before .before .before .if1 .left))
-    (λ c κs.
-    let at-m = c .before .before in
-    let at-or-split = at-m .before .before in
-    let at-match = at-or-split .before in
-    let at-if1 = at-match .before .before .before .before .before in
-    let at-pre = at-if1 .before .before in
+    (λ c κs. let at-m = c .before .before in let at-or-split = at-m .before .before in let at-match = at-or-split .before in
+    let at-if1 = at-match .before .before .before .before .before in let at-pre = at-if1 .before .before in let v = at-pre .pre .1 .0 .0 in
     lay-tagged _ (at-pre .pre .0) (at-if1 .if1 .left) (at-pre .pre .1 .1)
-    (next-by (at-pre .pre .1 .0 .0) (or-first (at-pre .pre .1 .0 .0) (at-match .match .keys5) (at-or-split .or-split .ensures) (at-m .m .given .1)) .0))
+    (next-by v (or-first v (at-match .match .keys5) (at-or-split .or-split .ensures) (at-m .m .given .1)) .0))
     (λ c. search needs)
     (λ c. omega (arith, c .before .before .before .before .before .before .before .before .before .if1 .left))
-    (λ c κs.
-    let at-m2 = c .before .before in
-    let at-or-split = at-m2 .before .before in
-    let at-match = at-or-split .before in
-    let at-if1 = at-match .before .before .before .before .before in
-    let at-pre = at-if1 .before .before in
+    (λ c κs. let at-m2 = c .before .before in let at-or-split = at-m2 .before .before in let at-match = at-or-split .before in
+    let at-if1 = at-match .before .before .before .before .before in let at-pre = at-if1 .before .before in let v = at-pre .pre .1 .0 .0 in
     lay-tagged _ (at-pre .pre .0) (at-if1 .if1 .left) (at-pre .pre .1 .1)
-    (next-by (at-pre .pre .1 .0 .0) (or-second (at-pre .pre .1 .0 .0) (at-match .match .keys5) (at-or-split .or-split .ensures) (at-m2 .m2 .given .1)) .0))
-    (λ c κs.
-    let at-pre = c .before .before .before .before .before .before .before in
-    let l = cons-lower (visited (at-pre .pre .1 .0 .0)) (c .match .keys6) in
-    (parts-in (visited (at-pre .pre .1 .0 .0)) l, words-some (visited (at-pre .pre .1 .0 .0)) l))
+    (next-by v (or-second v (at-match .match .keys5) (at-or-split .or-split .ensures) (at-m2 .m2 .given .1)) .0))
+    (λ c κs. let at-pre = c .before .before .before .before .before .before .before in let v = at-pre .pre .1 .0 .0 in
+    let l = cons-lower (visited v) (c .match .keys6) in (parts-in (visited v) l, words-some (visited v) l))
     (λ c. omega (arith, c .before .before .before .before .before .before .if1 .left))
-    (λ c κs.
-    let at-cons-split = c .before in
-    let at-match = at-cons-split .before in
-    let at-if1 = at-match .before .before .before .before .before in
-    let at-pre = at-if1 .before .before in
-    let n = next-by (at-pre .pre .1 .0 .0) (cons-items (at-pre .pre .1 .0 .0) (at-match .match .keys6) (at-cons-split .cons-split .ensures)) in
-    lay-both _ (at-pre .pre .0) (at-if1 .if1 .left) (at-pre .pre .1 .1) (n .0) (n .1 .0))
+    (λ c κs. let at-cons-split = c .before in let at-match = at-cons-split .before in
+    let at-if1 = at-match .before .before .before .before .before in let at-pre = at-if1 .before .before in let v = at-pre .pre .1 .0 .0 in
+    let n = next-by v (cons-items v (at-match .match .keys6) (at-cons-split .cons-split .ensures)) in lay-both _ (at-pre .pre .0)
+    (at-if1 .if1 .left) (at-pre .pre .1 .1) (n .0) (n .1 .0))
     (λ c κs. dep-in (visited (c .before .before .before .before .before .before .before .before .pre .1 .0 .0)) (c .before .match .keys7))
-    (λ c.
-    let at-match = c .before .before in
+    (λ c. let at-match = c .before .before in let at-pre = at-match .before .before .before .before .before .before .before in
+    let q = dep-place (at-pre .pre .1 .0 .0) (at-match .match .keys7) (c .parts .ensures) in omega (arith, q .0, q .1))
+    (λ c. let at-match = c .before .before in let at-pre = at-match .before .before .before .before .before .before .before in
+    let q = dep-place (at-pre .pre .1 .0 .0) (at-match .match .keys7) (c .parts .ensures) in omega (arith, q .0, q .1))
+    (λ c. let at-parts = c .before in let at-match = at-parts .before .before in
     let at-pre = at-match .before .before .before .before .before .before .before in
-    let q = dep-place (at-pre .pre .1 .0 .0) (at-match .match .keys7) (c .parts .ensures) in
-    omega (arith, q .0, q .1))
-    (λ c.
-    let at-match = c .before .before in
-    let at-pre = at-match .before .before .before .before .before .before .before in
-    let q = dep-place (at-pre .pre .1 .0 .0) (at-match .match .keys7) (c .parts .ensures) in
-    omega (arith, q .0, q .1))
-    (λ c.
-    let at-parts = c .before in
-    let at-match = at-parts .before .before in
-    let at-pre = at-match .before .before .before .before .before .before .before in
-    let q = dep-place (at-pre .pre .1 .0 .0) (at-match .match .keys7) (at-parts .parts .ensures) in
-    omega (arith, q .0, q .1))
+    let q = dep-place (at-pre .pre .1 .0 .0) (at-match .match .keys7) (at-parts .parts .ensures) in omega (arith, q .0, q .1))
     (λ c. omega (arith, c .before .before .before .before .before .before .before .before .if1 .left))
-    (λ c κs.
-    let at-parts = c .before .before in
-    let at-match = at-parts .before .before in
-    let at-if1 = at-match .before .before .before .before .before in
-    let at-pre = at-if1 .before .before in
-    let n = next-by (at-pre .pre .1 .0 .0) (dep-items (at-pre .pre .1 .0 .0) (at-match .match .keys7) (at-parts .parts .ensures)) in
-    lay-both _ (at-pre .pre .0) (at-if1 .if1 .left) (at-pre .pre .1 .1) (n .0) (n .1 .0))
+    (λ c κs. let at-parts = c .before .before in let at-match = at-parts .before .before in
+    let at-if1 = at-match .before .before .before .before .before in let at-pre = at-if1 .before .before in let v = at-pre .pre .1 .0 .0 in
+    let n = next-by v (dep-items v (at-match .match .keys7) (at-parts .parts .ensures)) in lay-both _ (at-pre .pre .0) (at-if1 .if1 .left)
+    (at-pre .pre .1 .1) (n .0) (n .1 .0))
     (λ c κs. omega (arith, c .before .before .before .before .before .before .before .pre .1 .1 .0))
     (λ c. omega (arith, c .before .before .before .before .before .before .if1 .left))
-    (λ c κs.
-    let at-split = c .before in
-    let at-match = at-split .before in
-    let at-if1 = at-match .before .before .before .before .before in
-    let at-pre = at-if1 .before .before in
-    lay-part _ (at-pre .pre .0) (at-if1 .if1 .left) (at-pre .pre .1 .1)
-    (next-by (at-pre .pre .1 .0 .0) (except-items (at-pre .pre .1 .0 .0) (at-match .match .keys8) (at-split .split .ensures)) .0))
+    (λ c κs. let at-split = c .before in let at-match = at-split .before in let at-if1 = at-match .before .before .before .before .before in
+    let at-pre = at-if1 .before .before in let v = at-pre .pre .1 .0 .0 in lay-part _ (at-pre .pre .0) (at-if1 .if1 .left) (at-pre .pre .1 .1)
+    (next-by v (except-items v (at-match .match .keys8) (at-split .split .ensures)) .0))
     (λ c. omega (arith, c .before .before .before .before .before .if1 .left))
-    (λ c κs.
-    let at-match = c .before in
-    let at-if1 = at-match .before .before .before .before .before in
-    let at-pre = at-if1 .before .before in
-    lay-part _ (at-pre .pre .0) (at-if1 .if1 .left) (at-pre .pre .1 .1)
-    (next-by (at-pre .pre .1 .0 .0) (fix-items (at-pre .pre .1 .0 .0) (at-match .match .keys9)) .0))
+    (λ c κs. let at-match = c .before in let at-if1 = at-match .before .before .before .before .before in
+    let at-pre = at-if1 .before .before in let v = at-pre .pre .1 .0 .0 in lay-part _ (at-pre .pre .0) (at-if1 .if1 .left) (at-pre .pre .1 .1)
+    (next-by v (fix-items v (at-match .match .keys9)) .0))
     (λ c. omega (arith, c .before .before .before .before .before .if1 .left))
-    (λ c κs.
-    let at-match = c .before in
-    let at-if1 = at-match .before .before .before .before .before in
-    let at-pre = at-if1 .before .before in
-    lay-part _ (at-pre .pre .0) (at-if1 .if1 .left) (at-pre .pre .1 .1)
-    (next-by (at-pre .pre .1 .0 .0) (again-items (at-pre .pre .1 .0 .0) (at-match .match .keys10)) .0))
+    (λ c κs. let at-match = c .before in let at-if1 = at-match .before .before .before .before .before in
+    let at-pre = at-if1 .before .before in let v = at-pre .pre .1 .0 .0 in lay-part _ (at-pre .pre .0) (at-if1 .if1 .left) (at-pre .pre .1 .1)
+    (next-by v (again-items v (at-match .match .keys10)) .0))
     (λ c. c .before .before .put .ensures .long)
-    (λ c.
-    let at-put = c .before .before in
-    let at-match = at-put .before .before in
-    let at-if1 = at-match .before .before .before .before .before in
-    let at-pre = at-if1 .before .before in
-    laid-by (walk-cell _ _ _ _ (at-if1 .if1 .left) (below-items (at-pre .pre .1 .0 .0) (at-match .match .keys1)) refl)
-    (at-put .put .ensures))
+    (λ c. let at-put = c .before .before in let at-match = at-put .before .before in
+    let at-if1 = at-match .before .before .before .before .before in let at-pre = at-if1 .before .before in laid-by
+    (walk-cell _ _ _ _ (at-if1 .if1 .left) (below-items (at-pre .pre .1 .0 .0) (at-match .match .keys1)) refl) (at-put .put .ensures))
     (λ c. c .before .before .put2 .ensures .long)
-    (λ c.
-    let at-put2 = c .before .before in
-    let at-match = at-put2 .before .before in
-    let at-if1 = at-match .before .before .before .before .before in
-    let at-pre = at-if1 .before .before in
-    laid-by (walk-cell _ _ _ _ (at-if1 .if1 .left) (nats-items (at-pre .pre .1 .0 .0) (at-match .match .keys2)) refl)
-    (at-put2 .put2 .ensures))
+    (λ c. let at-put2 = c .before .before in let at-match = at-put2 .before .before in
+    let at-if1 = at-match .before .before .before .before .before in let at-pre = at-if1 .before .before in laid-by
+    (walk-cell _ _ _ _ (at-if1 .if1 .left) (nats-items (at-pre .pre .1 .0 .0) (at-match .match .keys2)) refl) (at-put2 .put2 .ensures))
     (λ c. c .before .before .put3 .ensures .long)
-    (λ c.
-    let at-put3 = c .before .before in
-    let at-match = at-put3 .before .before .before .before in
-    let at-if1 = at-match .before .before .before .before .before in
-    let at-pre = at-if1 .before .before in
-    laid-by
-    (walk-word _ _ _ _ (at-if1 .if1 .left) (pool-items (at-pre .pre .1 .0 .0) (at-match .match .keys3)) (raised-none (at-pre .pre .1 .0 .1) (at-match .match .keys3) refl))
-    (at-put3 .put3 .ensures))
+    (λ c. let at-put3 = c .before .before in let at-match = at-put3 .before .before .before .before in let k = at-match .match .keys3 in
+    let at-if1 = at-match .before .before .before .before .before in let at-pre = at-if1 .before .before in laid-by (walk-word _ _ _ _
+    (at-if1 .if1 .left) (pool-items (at-pre .pre .1 .0 .0) k) (raised-none (at-pre .pre .1 .0 .1) k refl)) (at-put3 .put3 .ensures))
     (λ c. c .before .before .lay .ensures .long)
-    (λ c.
-    let at-lay = c .before .before in
-    let at-match = at-lay .before .before in
-    let at-if1 = at-match .before .before .before .before .before in
-    let at-pre = at-if1 .before .before in
-    laid-by (walk-pass _ _ _ _ (at-if1 .if1 .left) (shift-items (at-pre .pre .1 .0 .0) (at-match .match .keys4)) refl)
-    (at-lay .lay .ensures))
+    (λ c. let at-lay = c .before .before in let at-match = at-lay .before .before in
+    let at-if1 = at-match .before .before .before .before .before in let at-pre = at-if1 .before .before in laid-by
+    (walk-pass _ _ _ _ (at-if1 .if1 .left) (shift-items (at-pre .pre .1 .0 .0) (at-match .match .keys4)) refl) (at-lay .lay .ensures))
     (λ c. c .before .before .tagged .ensures .long)
-    (λ c.
-    let at-tagged = c .before .before in
-    let at-m = at-tagged .before .before .before in
-    let at-or-split = at-m .before .before in
-    let at-match = at-or-split .before in
-    let at-if1 = at-match .before .before .before .before .before in
-    let at-pre = at-if1 .before .before in
-    laid-by
-    (walk-tag _ _ _ _ (at-if1 .if1 .left) (or-first (at-pre .pre .1 .0 .0) (at-match .match .keys5) (at-or-split .or-split .ensures) (at-m .m .given .1)) (raised-none (at-pre .pre .1 .0 .1) (at-match .match .keys5) refl))
+    (λ c. let at-tagged = c .before .before in let at-m = at-tagged .before .before .before in let at-or-split = at-m .before .before in
+    let at-match = at-or-split .before in let k = at-match .match .keys5 in let at-if1 = at-match .before .before .before .before .before in
+    let at-pre = at-if1 .before .before in laid-by (walk-tag _ _ _ _ (at-if1 .if1 .left)
+    (or-first (at-pre .pre .1 .0 .0) k (at-or-split .or-split .ensures) (at-m .m .given .1)) (raised-none (at-pre .pre .1 .0 .1) k refl))
     (at-tagged .tagged .ensures))
     (λ c. c .before .before .tagged2 .ensures .long)
-    (λ c.
-    let at-tagged2 = c .before .before in
-    let at-m2 = at-tagged2 .before .before .before in
-    let at-or-split = at-m2 .before .before in
-    let at-match = at-or-split .before in
-    let at-if1 = at-match .before .before .before .before .before in
-    let at-pre = at-if1 .before .before in
-    laid-by
-    (walk-tag _ _ _ _ (at-if1 .if1 .left) (or-second (at-pre .pre .1 .0 .0) (at-match .match .keys5) (at-or-split .or-split .ensures) (at-m2 .m2 .given .1)) (raised-none (at-pre .pre .1 .0 .1) (at-match .match .keys5) refl))
+    (λ c. let at-tagged2 = c .before .before in let at-m2 = at-tagged2 .before .before .before in let at-or-split = at-m2 .before .before in
+    let at-match = at-or-split .before in let k = at-match .match .keys5 in let at-if1 = at-match .before .before .before .before .before in
+    let at-pre = at-if1 .before .before in laid-by (walk-tag _ _ _ _ (at-if1 .if1 .left)
+    (or-second (at-pre .pre .1 .0 .0) k (at-or-split .or-split .ensures) (at-m2 .m2 .given .1)) (raised-none (at-pre .pre .1 .0 .1) k refl))
     (at-tagged2 .tagged2 .ensures))
     (λ c. c .before .before .both .ensures .long)
-    (λ c.
-    let at-both = c .before .before in
-    let at-cons-split = at-both .before .before in
-    let at-match = at-cons-split .before in
-    let at-if1 = at-match .before .before .before .before .before in
-    let at-pre = at-if1 .before .before in
-    laid-by
-    (walk-two _ _ _ _ (at-if1 .if1 .left) (cons-items (at-pre .pre .1 .0 .0) (at-match .match .keys6) (at-cons-split .cons-split .ensures)) (raised-none (at-pre .pre .1 .0 .1) (at-match .match .keys6) refl))
-    (at-both .both .ensures))
+    (λ c. let at-both = c .before .before in let at-cons-split = at-both .before .before in let at-match = at-cons-split .before in
+    let k = at-match .match .keys6 in let at-if1 = at-match .before .before .before .before .before in let at-pre = at-if1 .before .before in
+    laid-by (walk-two _ _ _ _ (at-if1 .if1 .left) (cons-items (at-pre .pre .1 .0 .0) k (at-cons-split .cons-split .ensures))
+    (raised-none (at-pre .pre .1 .0 .1) k refl)) (at-both .both .ensures))
     (λ c. c .before .before .both2 .ensures .long)
-    (λ c.
-    let at-both2 = c .before .before in
-    let at-parts = at-both2 .before .before .before in
-    let at-match = at-parts .before .before in
-    let at-if1 = at-match .before .before .before .before .before in
-    let at-pre = at-if1 .before .before in
-    laid-by
-    (walk-two _ _ _ _ (at-if1 .if1 .left) (dep-items (at-pre .pre .1 .0 .0) (at-match .match .keys7) (at-parts .parts .ensures)) (raised-none (at-pre .pre .1 .0 .1) (at-match .match .keys7) refl))
-    (at-both2 .both2 .ensures))
+    (λ c. let at-both2 = c .before .before in let at-parts = at-both2 .before .before .before in let at-match = at-parts .before .before in
+    let k = at-match .match .keys7 in let at-if1 = at-match .before .before .before .before .before in let at-pre = at-if1 .before .before in
+    laid-by (walk-two _ _ _ _ (at-if1 .if1 .left) (dep-items (at-pre .pre .1 .0 .0) k (at-parts .parts .ensures))
+    (raised-none (at-pre .pre .1 .0 .1) k refl)) (at-both2 .both2 .ensures))
     (λ c. c .before .before .lay2 .ensures .long)
-    (λ c.
-    let at-lay2 = c .before .before in
-    let at-split = at-lay2 .before .before in
-    let at-match = at-split .before in
-    let at-if1 = at-match .before .before .before .before .before in
-    let at-pre = at-if1 .before .before in
-    laid-by
-    (walk-same _ _ _ _ (at-if1 .if1 .left) (except-items (at-pre .pre .1 .0 .0) (at-match .match .keys8) (at-split .split .ensures)) (raised-none (at-pre .pre .1 .0 .1) (at-match .match .keys8) refl))
-    (at-lay2 .lay2 .ensures))
+    (λ c. let at-lay2 = c .before .before in let at-split = at-lay2 .before .before in let at-match = at-split .before in
+    let k = at-match .match .keys8 in let at-if1 = at-match .before .before .before .before .before in let at-pre = at-if1 .before .before in
+    laid-by (walk-same _ _ _ _ (at-if1 .if1 .left) (except-items (at-pre .pre .1 .0 .0) k (at-split .split .ensures))
+    (raised-none (at-pre .pre .1 .0 .1) k refl)) (at-lay2 .lay2 .ensures))
     (λ c. c .before .before .lay3 .ensures .long)
-    (λ c.
-    let at-lay3 = c .before .before in
-    let at-match = at-lay3 .before .before in
-    let at-if1 = at-match .before .before .before .before .before in
-    let at-pre = at-if1 .before .before in
-    laid-by
-    (walk-same _ _ _ _ (at-if1 .if1 .left) (fix-items (at-pre .pre .1 .0 .0) (at-match .match .keys9)) (raised-none (at-pre .pre .1 .0 .1) (at-match .match .keys9) refl))
-    (at-lay3 .lay3 .ensures))
+    (λ c. let at-lay3 = c .before .before in let at-match = at-lay3 .before .before in let k = at-match .match .keys9 in
+    let at-if1 = at-match .before .before .before .before .before in let at-pre = at-if1 .before .before in laid-by (walk-same _ _ _ _
+    (at-if1 .if1 .left) (fix-items (at-pre .pre .1 .0 .0) k) (raised-none (at-pre .pre .1 .0 .1) k refl)) (at-lay3 .lay3 .ensures))
     (λ c. c .before .before .lay4 .ensures .long)
-    (λ c.
-    let at-lay4 = c .before .before in
-    let at-match = at-lay4 .before .before in
-    let at-if1 = at-match .before .before .before .before .before in
-    let at-pre = at-if1 .before .before in
-    laid-by
-    (walk-same _ _ _ _ (at-if1 .if1 .left) (again-items (at-pre .pre .1 .0 .0) (at-match .match .keys10)) (raised-none (at-pre .pre .1 .0 .1) (at-match .match .keys10) refl))
-    (at-lay4 .lay4 .ensures))
+    (λ c. let at-lay4 = c .before .before in let at-match = at-lay4 .before .before in let k = at-match .match .keys10 in
+    let at-if1 = at-match .before .before .before .before .before in let at-pre = at-if1 .before .before in laid-by (walk-same _ _ _ _
+    (at-if1 .if1 .left) (again-items (at-pre .pre .1 .0 .0) k) (raised-none (at-pre .pre .1 .0 .1) k refl)) (at-lay4 .lay4 .ensures))
     (λ c. absurd (known (visited (c .before .before .before .before .before .before .before .pre .1 .0 .0)) (c .match .rest))))
     (λ t. tagged-lts.spec (lay-below t, lay.Post) (tagged-at t) tagged.Post
     (λ c. laid-none _ _ (c .if1 .taken))
@@ -380,9 +294,18 @@ pub +both+lay+tagged-spec : {M : Type 1} → statement M
     (λ c. simp length-set (omega (arith, c .if1 .left)))
     (λ c. simp length-set (omega (arith, c .if1 .left)))
     (λ c. simp length-set (omega (arith, c .if1 .left)))
-    (λ c κs.
-    let at-pre = c .before .before .before in
-    let p = at-pre .pre in
-    (omega (arith, p .0), ((p .1 .0, raised-zero _ _), (p .1 .1 .0, omega (arith, p .1 .1 .1), p .1 .1 .1, lent-set (at-pre .args .tag) (at-pre .args .out .now) (p .1 .1 .2)))))
+    (λ c κs. let at-args = c .before .before .before in let p = at-args .pre in (
+      omega (arith, p .0),
+      (
+        (p .1 .0, raised-zero _ _),
+        (
+          p .1 .1
+              .0,
+          omega (arith, p .1 .1 .1),
+          p .1 .1 .1,
+          lent-set (at-args .args .tag) (at-args .args .out .now) (p .1 .1 .2),
+        ),
+      ),
+    ))
     (λ c. tagged-one t c .long)
     (λ c. tagged-one t c))

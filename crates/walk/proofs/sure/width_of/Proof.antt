@@ -37,11 +37,23 @@ width-of-spec =
     (λ c κs. c .before .before .before .before .before .pre .1 .long)
     (λ c κs. c .before .before .before .before .before .before .pre .1 .long)
     (λ c κs. search needs)
-    (λ c. omega (arith, c .larger .ensures, of-part (c .before .before .before .before .before .before .before .before .pre .1) (c .before .before .part2 .ensures) .low, of-part (c .before .before .before .before .before .before .before .before .pre .1) (c .before .part3 .ensures) .low))
+    (λ c. let at-part3 = c .before in let at-part2 = at-part3 .before in
+    let at-pre = at-part2 .before .before .before .before .before .before in omega (
+      arith,
+      c .larger .ensures,
+      of-part (at-pre .pre .1)
+          (at-part2 .part2 .ensures) .low,
+      of-part (at-pre .pre .1) (at-part3 .part3 .ensures) .low,
+    ))
     (λ c κs. search needs)
     (λ c κs. c .before .before .before .before .before .pre .1 .long)
     (λ c κs. c .before .before .before .before .before .before .pre .1 .long)
-    (λ c. omega (arith, of-part (c .before .before .before .before .before .before .before .pre .1) (c .before .part4 .ensures) .low, of-part (c .before .before .before .before .before .before .before .pre .1) (c .part5 .ensures) .low))
+    (λ c. let at-part4 = c .before in let at-pre = at-part4 .before .before .before .before .before .before in omega (
+      arith,
+      of-part
+          (at-pre .pre .1) (at-part4 .part4 .ensures) .low,
+      of-part (at-pre .pre .1) (c .part5 .ensures) .low,
+    ))
     (λ c κs. search needs)
     (λ c κs. c .before .before .before .before .before .pre .1 .long)
     (λ c κs. c .before .before .before .before .before .pre .1 .long)
@@ -49,8 +61,12 @@ width-of-spec =
     (λ c. width-nats (c .before .before .before .before .before .pre .1) _ (c .match .keys2))
     (λ c. width-pool (c .before .before .before .before .before .pre .1) _ (c .match .keys3))
     (λ c. width-shift (c .before .before .before .before .before .before .pre .1) _ (c .part .ensures) (c .before .match .keys4))
-    (λ c. width-or (c .before .before .before .before .before .before .before .before .before .pre .1) _ (c .before .before .before .part2 .ensures) (c .before .before .part3 .ensures) (c .before .before .before .before .match .keys5) (c .before .larger .ensures) (c .capped .ensures))
-    (λ c. width-cons (c .before .before .before .before .before .before .before .before .pre .1) _ (c .before .before .part4 .ensures) (c .before .part5 .ensures) (c .before .before .before .match .keys6) (c .capped2 .ensures))
+    (λ c. let at-larger = c .before in let at-part3 = at-larger .before in let at-part2 = at-part3 .before in
+    let at-match = at-part2 .before in let at-pre = at-match .before .before .before .before .before in width-or (at-pre .pre .1) _
+    (at-part2 .part2 .ensures) (at-part3 .part3 .ensures) (at-match .match .keys5) (at-larger .larger .ensures) (c .capped .ensures))
+    (λ c. let at-part5 = c .before in let at-part4 = at-part5 .before in let at-match = at-part4 .before in
+    let at-pre = at-match .before .before .before .before .before in width-cons (at-pre .pre .1) _ (at-part4 .part4 .ensures)
+    (at-part5 .part5 .ensures) (at-match .match .keys6) (c .capped2 .ensures))
     (λ c. width-none refl)
     (λ c. width-except (c .before .before .before .before .before .before .pre .1) _ (c .part6 .ensures) (c .before .match .keys8))
     (λ c. width-fix (c .before .before .before .before .before .before .pre .1) _ (c .part7 .ensures) (c .before .match .keys9))
