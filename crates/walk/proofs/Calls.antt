@@ -23,14 +23,16 @@ tally-by room e h = h ∙ sym (ap (tallied room) e)
 pub tally-any : (room : ℕ) {c : ℕ} {es xs : List Event} {b : RoomLeft} → es ≡ cell c ∷ xs → b ≡ tallied room (cell 0 ∷ xs) → b ≡ tallied room es
 tally-any room {c} {xs = xs} e h = tally-by room e (h ∙ tallied-any room 0 c xs)
 
-pub tally-up : (room : ℕ) (g : ℕ → Rule) (d u i n : ℕ) {es : List Event} {b : RoomLeft} → es ≡ walk g d u i n → b ≡ tallied room (walk g d 0 i n) → b ≡ tallied room es
+pub tally-up : (room : ℕ) (g : ℕ → Rule) (d u i n : ℕ) {es : List Event} {b : RoomLeft} → es ≡ walk g d u i n → b ≡ tallied room (walk g d 0 i n)
+    → b ≡ tallied room es
 tally-up room g d u i n e h = tally-by room e (h ∙ tallied-up g d 0 u i n room)
 
 pub laid-by : {room : ℕ} {es es' : List Event} {old last : List ℕ} {b : RoomLeft} → es ≡ es' → Laid room es' old last b → Laid room es old last b
 laid-by {room} {old = old} {last} {b} e h = subst (λ (xs : List Event). Laid room xs old last b) (sym e) h
 
 module _ {plan p : List ℕ} {n left t room : ℕ} (e : 2 * left ≡ t) (f : left ≡ 0 → ⊥) (h : (n + left ≤ 2 ^ 62 + 200) × (left ≤ 200) × (room ≤ most)) where
-  pub tally-part : {q m : ℕ} → Next plan p n q m → (2 * (left - 1) < t) × (Visits plan p q m × ((m + (left - 1) ≤ 2 ^ 62 + 200) × (left - 1 ≤ 200) × (room ≤ most)))
+  pub tally-part : {q m : ℕ} → Next plan p n q m
+      → (2 * (left - 1) < t) × (Visits plan p q m × ((m + (left - 1) ≤ 2 ^ 62 + 200) × (left - 1 ≤ 200) × (room ≤ most)))
   tally-part k = (omega arith, (k .visits, (omega (arith, k .near, h .0), omega (arith, h .1), h .2)))
 
   pub tally-tagged : {q m : ℕ} → Next plan p n q m

@@ -45,11 +45,13 @@ lowered le (exact l e) = exact l e
 lowered le (large e m l f) = large e m (omega arith) f
 lowered le (stops l e) = stops l e
 
-pub restated : {l l' : ℕ} {u v : ℕ → List ℕ → Read} {row : List ℕ} {at k r : ℕ} → l' ≤ l → ((q : ℕ) (cs : List ℕ) → v q cs ≡ u q cs) → Taken l u row at k r → Taken l' v row at k r
+pub restated : {l l' : ℕ} {u v : ℕ → List ℕ → Read} {row : List ℕ} {at k r : ℕ} → l' ≤ l → ((q : ℕ) (cs : List ℕ) → v q cs ≡ u q cs)
+    → Taken l u row at k r → Taken l' v row at k r
 restated {at = at} le e h = record { took = λ cells stop q. rw (e (stop - at) (drop at cells)) (lowered le (h .took cells stop q)); inside = h .inside }
 
 -- a word over the row alone
-pub seen-row : {l : ℕ} {u : ℕ → List ℕ → Read} {row : List ℕ} {at k x : ℕ} → Taken l u row at k x → x ≤ 2 ^ 63 → Seen l (u (length row - at) (drop at row)) row (length row) k x
+pub seen-row : {l : ℕ} {u : ℕ → List ℕ → Read} {row : List ℕ} {at k x : ℕ} → Taken l u row at k x → x ≤ 2 ^ 63
+    → Seen l (u (length row - at) (drop at row)) row (length row) k x
 seen-row {row = row} h g = seen (h .took row (length row) (sym (take-all (length row) row (le-refl _)))) g
 
 -- ---- nothing more is read
@@ -64,7 +66,8 @@ module _ {row : List ℕ} {k : ℕ} where
   unfolding wordOf capped
   taken-number m {l} hi i e =
       subst (Taken l (read m) row k k) (sym e)
-      (pick-by (λ j. Taken l (read m) row k k (wordOf j)) (ltb m limit) (λ t. taken-done (ltb-true m limit t) i) (λ t. taken-large (omega (arith, ltb-false m limit t)) i))
+      (pick-by (λ j. Taken l (read m) row k k (wordOf j)) (ltb m limit)
+      (λ t. taken-done (ltb-true m limit t) i) (λ t. taken-large (omega (arith, ltb-false m limit t)) i))
 
   pub taken-fails : {l : ℕ} → Taken l (λ q cs. wrong NotACase) row k k (2 ^ 63 + 2)
   taken-fails = record { took = λ cells stop e. stops (omega arith) refl; inside = λ q. absurd (omega arith) }
@@ -102,7 +105,8 @@ module _ (off : ℕ) (row : List ℕ) (at : ℕ) (f : ℕ → ℕ → List ℕ �
       inside = λ q. absurd (omega arith);
     }
 
-    pub cell-found : off ≤ getD row at 0 → {l next r : ℕ} → Taken l (f (getD row at 0 - off)) row (at + 1) next r → Taken l (λ q cs. cellOf off q cs f) row at next r
+    pub cell-found : off ≤ getD row at 0 → {l next r : ℕ} → Taken l (f (getD row at 0 - off)) row (at + 1) next r
+        → Taken l (λ q cs. cellOf off q cs f) row at next r
     cell-found h t = record {
       took = λ cells stop e. rw (cell-is cells stop e, le-leb off (getD row at 0) h) (t .took cells stop e);
       inside = t .inside;
@@ -121,13 +125,16 @@ cell-then off (suc q) (c ∷ cs) f = by (leb off c)
 -- ---- something comes first that has been read as x
 module _ {row : List ℕ} {at k l x : ℕ} {u : ℕ → List ℕ → Read} (h : Taken l u row at k x) where
   -- what stops it stops all
-  pub first-stops : 2 ^ 63 < x → {l' : ℕ} {v : ℕ → List ℕ → Read} (F : ℕ → ℕ → List ℕ → Read) → ((q : ℕ) (cs : List ℕ) → v q cs ≡ then (u q cs) F) → Taken l' v row at k x
+  pub first-stops : 2 ^ 63 < x → {l' : ℕ} {v : ℕ → List ℕ → Read} (F : ℕ → ℕ → List ℕ → Read) → ((q : ℕ) (cs : List ℕ) → v q cs ≡ then (u q cs) F)
+      → Taken l' v row at k x
   first-stops g F e = record { took = λ cells stop r. stops g (e _ _ ∙ rw (refused (h .took cells stop r) g)); inside = λ q. absurd (omega arith) }
 
   -- the rest reads on where it ends, whatever number m it was
   pub first-then : x ≤ 2 ^ 63 → {l' next r : ℕ} {v : ℕ → List ℕ → Read} (F : ℕ → ℕ → List ℕ → Read) → ((q : ℕ) (cs : List ℕ) → v q cs ≡ then (u q cs) F)
       → ((m : ℕ) → (x < 2 ^ 63 → m ≡ x) → (2 ^ 63 ≤ x → l ≤ m) → Taken l' (F m) row k next r) → Taken l' v row at next r
   first-then g {r = r} F e f = record {
-    took = λ cells stop q. let s = seen (h .took cells stop q) g in rw (e (stop - at) (drop at cells), s .is) (f (s .m) (s .same) (s .above) .took cells stop q);
+    took = λ cells stop q.
+        let s = seen (h .took cells stop q) g in
+        rw (e (stop - at) (drop at cells), s .is) (f (s .m) (s .same) (s .above) .took cells stop q);
     inside = λ q. let s = seen-row h g in f (s .m) (s .same) (s .above) .inside q;
   }

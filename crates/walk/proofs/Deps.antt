@@ -127,7 +127,7 @@ module _ {plan p : List ℕ} {i : ℕ} (r : Reading plan p i) (e : kindWord plan
         let many : 0 < length cs = omega (arith, some) in
         Deps.join-least (secondsOf z cs) x y (rw (seconds-firsts z cs, long) l)
         (λ k q.
-            let c : k < length cs = rw (seconds-firsts z cs) at q in
-            let o : k < m = omega arith in
-            let n = second-in k o in
-            rw (seconds-second z cs alike many k c, run-at p b m in-pool k o) (r .walks .some (getD p (b + k) 0) n))
+        let c : k < length cs = rw (seconds-firsts z cs) at q in
+        let o : k < m = omega arith in
+        let n = second-in k o in
+        rw (seconds-second z cs alike many k c, run-at p b m in-pool k o) (r .walks .some (getD p (b + k) 0) n))

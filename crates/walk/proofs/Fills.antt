@@ -1,5 +1,7 @@
 -- A fill of a buffer, and of the part that it left.
---   then        one list over the front, and then another over what is left, is their sum over the front
+--   length-over, over-front, over-back, over-is, over-append   a list over a buffer's front
+--   part-old, part-rest   the part from a place on, and what lies after it
+--   then           one list over the front, and then another over what is left, is their sum over the front
 --   nothing        a fill of no words
 --   same, within   the buffer keeps its length, and the count is within it
 -- Assumes nothing.
@@ -54,7 +56,8 @@ over-is (x ∷ new) [] = refl
 over-is (x ∷ new) (y ∷ old) = ap (λ (l : List ℕ). x ∷ l) (over-is new old)
 
 -- one list over the front, and then another over what is left, is their sum over the front
-pub over-append : (a b old : List ℕ) → over (a ++ b) old ≡ take (min (length a) (length old)) (over a old) ++ over b (drop (min (length a) (length old)) (over a old))
+pub over-append : (a b old : List ℕ)
+    → over (a ++ b) old ≡ take (min (length a) (length old)) (over a old) ++ over b (drop (min (length a) (length old)) (over a old))
 unfolding over
 over-append [] b old = rw none-min
 over-append (x ∷ a) b [] = simp (min-none, over-none)

@@ -49,7 +49,8 @@ laid-stops {room} {xs} {w = w} ys h l =
     ⊎-elim (λ q. rw q (laid-deep (h .long) (sym q ∙ e))) (λ q. rw q (laid-full (h .long) (sym q ∙ e))) (word-stops w l)
 
 -- ---- one cell
-pub laid-one : (c : ℕ) (old : List ℕ) → (length old ≡ 0 → ⊥) → length old ≤ most → Laid (length old) (cell c ∷ []) old (set old 0 c) (leftOf (length (set old 0 c) - 1))
+pub laid-one : (c : ℕ) (old : List ℕ) → (length old ≡ 0 → ⊥) → length old ≤ most
+    → Laid (length old) (cell c ∷ []) old (set old 0 c) (leftOf (length (set old 0 c) - 1))
 unfolding cells over tallied
 laid-one c [] f l = absurd (f refl)
 laid-one c (y ∷ old) f l = record {
@@ -72,9 +73,15 @@ module _ {xs ys : List Event} {old mid lent last : List ℕ} {w k : ℕ} {b : Ro
 
   two-long : length together ≡ length old
   two-long = omega (
-    arith, h .long, g .long, ap length part-is, length-drop k mid, length-take k mid,
+    arith,
+    h .long,
+    g .long,
+    ap length part-is,
+    length-drop k mid,
+    length-take k mid,
     length-append (take k mid) (last ++ drop (length mid - k) (drop k mid)),
-    length-append last (drop (length mid - k) (drop k mid)), ap length (part-rest k mid),
+    length-append last (drop (length mid - k) (drop k mid)),
+    ap length (part-rest k mid),
   )
 
   two-holds : {m : ℕ} → b ≡ Left m → together ≡ over (cells (xs ++ ys)) old

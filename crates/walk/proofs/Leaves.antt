@@ -28,7 +28,8 @@ use Rattle.walk.specs.Took.{Taken}
 use Rattle.walk.proofs.Cells.{taken-done, taken-fails, cell-ends, cell-less, cell-found, cell-then, first-stops, first-then}
 
 -- ---- below: the cell has been read as x
-module _ (a off : ℕ) {row : List ℕ} {at k x : ℕ} (h : Taken limit (λ q cs. cellOf off q cs (λ c. read c)) row at k x) (low : a ≤ 2 ^ 62) (go : ℕ → ℕ → ℕ → List ℕ → Read) where
+module _ (a off : ℕ) {row : List ℕ} {at k x : ℕ} (h : Taken limit (λ q cs. cellOf off q cs (λ c. read c)) row at k x)
+    (low : a ≤ 2 ^ 62) (go : ℕ → ℕ → ℕ → List ℕ → Read) where
   abbrev after : ℕ → ℕ → List ℕ → Read
   after c = follow go 0 (pick (ltb c a) (done c) fails)
 
@@ -81,7 +82,8 @@ module _ (p : List ℕ) (a b off : ℕ) (row : List ℕ) (at : ℕ) (go : ℕ �
       unfolding follow poolRule
       listed-there {m} q s =
           let o = word-there (getD row at 0 - off) ws e q in
-          cell-found off row at then-place l h (rw (o .0, o .1) (taken-done (omega (arith, place-in (getD row at 0 - off) ws (o .0), o .1, length-take b (drop a p))) (omega arith)))
+          let i = place-in (getD row at 0 - off) ws (o .0) in
+          cell-found off row at then-place l h (rw (o .0, o .1) (taken-done (omega (arith, i, o .1, length-take b (drop a p))) (omega arith)))
 
       pub listed-nowhere : r ≡ Nowhere → Taken limit (follow go off (poolRule ws b .tree)) row at (at + 1) (2 ^ 63 + 2)
       unfolding follow poolRule

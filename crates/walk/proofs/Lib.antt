@@ -15,3 +15,5 @@ pub mod Cells
 pub mod Takes
 pub mod Trees
 pub mod Leaves
+pub mod Sures
+pub mod Plans

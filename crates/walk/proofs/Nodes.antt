@@ -46,7 +46,8 @@ unlike zero k h = omega arith
 unlike (suc j) k h = let l = unlike j k (h .0) in let f = h .1 in omega arith
 
 -- ---- the rule, by the kind word
-pub rule-by : (plan p : List ℕ) (i : ℕ) {k : ℕ} → kindWord plan i ≡ k → ruleIn plan p i ≡ kindIn k .rule (aWord plan i) (bWord plan i) p (before (sizeIn plan) i)
+pub rule-by : (plan p : List ℕ) (i : ℕ) {k : ℕ} → kindWord plan i ≡ k
+    → ruleIn plan p i ≡ kindIn k .rule (aWord plan i) (bWord plan i) p (before (sizeIn plan) i)
 unfolding ruleIn
 rule-by plan p i e = ap (λ k. kindIn k .rule (aWord plan i) (bWord plan i) p (before (sizeIn plan) i)) e
 
@@ -119,9 +120,12 @@ module _ {plan p : List ℕ} {i : ℕ} (r : Reading plan p i) where
     pub shift-raised : (up : ℕ) → Raised plan (aWord plan i) up
     shift-raised up =
         let k = kindWord plan (aWord plan i) in
-        let by-or = or-says (eqb k 0 || eqb k 1) (eqb k 3) (checks-by e .1 .1 .0) in
+        let low : (eqb k 0 || eqb k 1) ≡ true → (k ≡ 0) ⊎ (k ≡ 1) = λ q.
+        ⊎-elim (λ s. inl (eqb-true k 0 s)) (λ s. inr (eqb-true k 1 s)) (or-says (eqb k 0) (eqb k 1) q) in
         record {
-          is = inr (⊎-elim (λ q. ⊎-elim (λ s. inl (eqb-true k 0 s)) (λ s. inr (inl (eqb-true k 1 s))) (or-says (eqb k 0) (eqb k 1) q)) (λ q. inr (inr (eqb-true k 3 q))) by-or);
+          is = inr
+              (⊎-elim (λ q. ⊎-elim (λ s. inl s) (λ s. inr (inl s)) (low q)) (λ q. inr (inr (eqb-true k 3 q)))
+              (or-says (eqb k 0 || eqb k 1) (eqb k 3) (checks-by e .1 .1 .0)));
         }
       where
         or-says : (a b : Bool) → (a || b) ≡ true → (a ≡ true) ⊎ (b ≡ true)

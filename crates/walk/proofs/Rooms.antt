@@ -78,7 +78,8 @@ unfolding shown blind
 blind-shown go f u v [] = refl
 blind-shown go f u v (own c ∷ is) = refl
 blind-shown go f u v (part p m k ∷ is) =
-    blind-append (go (u + k) p m) (shown go 0 is) ∙ (ap (λ (es : List Event). es ++ blind (shown go 0 is)) (f (u + k) (v + k) p m) ∙ sym (blind-append (go (v + k) p m) (shown go 0 is)))
+    let same = ap (λ (es : List Event). es ++ blind (shown go 0 is)) (f (u + k) (v + k) p m) in
+    blind-append (go (u + k) p m) (shown go 0 is) ∙ (same ∙ sym (blind-append (go (v + k) p m) (shown go 0 is)))
 
 blind-walk : (g : ℕ → Rule) (d u v i n : ℕ) → blind (walk g d u i n) ≡ blind (walk g d v i n)
 unfolding walk

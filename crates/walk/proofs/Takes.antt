@@ -54,7 +54,8 @@ module _ {row : List ℕ} {at k l l' y : ℕ} {u : ℕ → List ℕ → Read} (h
         (λ m same above. taken-number (f m) hi (h .inside (omega arith)) (subst (λ (n : ℕ). r ≡ wordOf (capped (f n))) (sym (same g)) e))
 
 -- ---- a visit
-run-by : (g : ℕ → Rule) (i off : ℕ) {d : ℕ} → (d ≡ 0 → ⊥) → {t : Tree} → g i .tree ≡ t → (q : ℕ) (cs : List ℕ) → run g d off i q cs ≡ follow (run g (d - 1)) off t q cs
+run-by : (g : ℕ → Rule) (i off : ℕ) {d : ℕ} → (d ≡ 0 → ⊥) → {t : Tree} → g i .tree ≡ t → (q : ℕ) (cs : List ℕ)
+    → run g d off i q cs ≡ follow (run g (d - 1)) off t q cs
 run-by g i off {d} f e q cs = by d f ∙ ap (λ (t : Tree). follow (run g (d - 1)) off t q cs) e
   where
     by : (e : ℕ) → (e ≡ 0 → ⊥) → run g e off i q cs ≡ follow (run g (e - 1)) off (g i .tree) q cs
@@ -67,7 +68,8 @@ module _ (g : ℕ → Rule) (i off : ℕ) {d : ℕ} {row : List ℕ} {at : ℕ} 
   deep-taken e = record { took = λ cells stop q. stops (omega arith) (rw e); inside = λ q. absurd (omega arith) }
 
   module _ (f : d ≡ 0 → ⊥) where
-    pub tree-taken : {t : Tree} → g i .tree ≡ t → {l l' k r : ℕ} → l' ≤ l → Taken l (follow (run g (d - 1)) off t) row at k r → Taken l' (run g d off i) row at k r
+    pub tree-taken : {t : Tree} → g i .tree ≡ t → {l l' k r : ℕ} → l' ≤ l → Taken l (follow (run g (d - 1)) off t) row at k r
+        → Taken l' (run g d off i) row at k r
     tree-taken e le h = restated le (run-by g i off f e) h
 
     pub pass-taken : {a k u : ℕ} → g i .tree ≡ reads a k (λ m. done m) → u ≡ off + k → {l l' e r : ℕ} → l' ≤ l → Taken l (run g (d - 1) u a) row at e r
@@ -85,7 +87,8 @@ module _ (g : ℕ → Rule) (i off : ℕ) {d : ℕ} {row : List ℕ} {at : ℕ} 
       tag-stops b = first-stops h b (λ c. follow (run g (d - 1)) 0 (F c)) tag-by
 
       -- it leads nowhere
-      pub tag-fails : x ≤ 2 ^ 63 → ((m : ℕ) → (x < 2 ^ 63 → m ≡ x) → (2 ^ 63 ≤ x → limit ≤ m) → F m ≡ fails) → {l : ℕ} → Taken l (run g d off i) row at e (2 ^ 63 + 2)
+      pub tag-fails : x ≤ 2 ^ 63 → ((m : ℕ) → (x < 2 ^ 63 → m ≡ x) → (2 ^ 63 ≤ x → limit ≤ m) → F m ≡ fails) → {l : ℕ}
+          → Taken l (run g d off i) row at e (2 ^ 63 + 2)
       unfolding follow
       tag-fails b none {l} =
           first-then h b (λ c. follow (run g (d - 1)) 0 (F c)) tag-by
@@ -120,7 +123,8 @@ module _ (g : ℕ → Rule) (i off : ℕ) {d : ℕ} {row : List ℕ} {at : ℕ} 
       part-then b o = first-then h b (λ m. follow (run g (d - 1)) 0 (F m)) part-by o
 
     -- ---- "the case an except removed (met after its last cell)"
-    module _ {a b : ℕ} (t : g i .tree ≡ reads a 0 (λ m. pick (eqb m b) fails (done (Except.join b m)))) {e x l : ℕ} (h : Taken l (run g (d - 1) off a) row at e x) where
+    module _ {a b : ℕ} (t : g i .tree ≡ reads a 0 (λ m. pick (eqb m b) fails (done (Except.join b m)))) {e x l : ℕ}
+        (h : Taken l (run g (d - 1) off a) row at e x) where
       pub except-unfit : x < 2 ^ 63 → x ≡ b → {l' : ℕ} → Taken l' (run g d off i) row at e (2 ^ 63 + 2)
       unfolding follow
       except-unfit s q = part-then t h (omega arith) (λ m same above. rw (eq-eqb m b (same s ∙ q)) taken-fails)
@@ -137,17 +141,19 @@ module _ (g : ℕ → Rule) (i off : ℕ) {d : ℕ} {row : List ℕ} {at : ℕ} 
           at-limit o =
               part-then t h (omega arith)
               (λ m same above.
-                  let z : l ≤ m = above big in
-                  let ne : m ≡ b → ⊥ = λ q. omega arith in
-                  rw (ne-eqb m b ne) (taken-large (omega (arith, Excepts.join-least b m .0)) (h .inside (omega arith))))
+              let z : l ≤ m = above big in
+              let ne : m ≡ b → ⊥ = λ q. omega arith in
+              rw (ne-eqb m b ne) (taken-large (omega (arith, Excepts.join-least b m .0)) (h .inside (omega arith))))
 
-      pub except-number : x < 2 ^ 63 → (x ≡ b → ⊥) → {l' : ℕ} → l' ≤ limit → {w : ℕ} → w ≡ wordOf (capped (Except.join b x)) → Taken l' (run g d off i) row at e w
+      pub except-number : x < 2 ^ 63 → (x ≡ b → ⊥) → {l' : ℕ} → l' ≤ limit → {w : ℕ} → w ≡ wordOf (capped (Except.join b x))
+          → Taken l' (run g d off i) row at e w
       unfolding follow
       except-number s ne {l'} hi {w} q =
           part-then t h (omega arith)
           (λ m same above.
-              let o : (m ≡ b → ⊥) = λ z. ne (sym (same s) ∙ z) in
-              rw (ne-eqb m b o) (taken-number (Except.join b m) hi (h .inside (omega arith)) (subst (λ (n : ℕ). w ≡ wordOf (capped (Except.join b n))) (sym (same s)) q)))
+          let o : (m ≡ b → ⊥) = λ z. ne (sym (same s) ∙ z) in
+          let v = subst (λ (n : ℕ). w ≡ wordOf (capped (Except.join b n))) (sym (same s)) q in
+          rw (ne-eqb m b o) (taken-number (Except.join b m) hi (h .inside (omega arith)) v))
 
     -- ---- a part, and a second one: c m is its node, J m n the whole number
     module _ {a : ℕ} {c : ℕ → ℕ} {J : ℕ → ℕ → ℕ} (t : g i .tree ≡ reads a 0 (λ m. reads (c m) 0 (λ n. done (J m n)))) {e x l : ℕ}
@@ -156,14 +162,15 @@ module _ (g : ℕ → Rule) (i off : ℕ) {d : ℕ} {row : List ℕ} {at : ℕ} 
       two-stops b = part-stops t h b
 
       module _ (s : x ≤ 2 ^ 63) {b : ℕ} (node : (m : ℕ) → (x < 2 ^ 63 → m ≡ x) → c m ≡ b)
-          (least : (m : ℕ) → (x < 2 ^ 63 → m ≡ x) → (n : ℕ) → (m ≤ J m n) × (n ≤ J m n)) {next y l' : ℕ} (le : l' ≤ l) (k : Taken l (run g (d - 1) 0 b) row e next y) where
+          (least : (m : ℕ) → (x < 2 ^ 63 → m ≡ x) → (n : ℕ) → (m ≤ J m n) × (n ≤ J m n)) {next y l' : ℕ}
+          (le : l' ≤ l) (k : Taken l (run g (d - 1) 0 b) row e next y) where
         two-then : {w : ℕ} → ((m : ℕ) → (x < 2 ^ 63 → m ≡ x) → (2 ^ 63 ≤ x → l ≤ m) → Taken l' (λ q cs. then (run g (d - 1) 0 b q cs) (λ n. read (J m n))) row e next w)
             → Taken l' (run g d off i) row at next w
         unfolding follow
         two-then {w} o =
             part-then t h s
             (λ m same above.
-                subst (λ (p : ℕ). Taken l' (λ q cs. then (run g (d - 1) 0 p q cs) (λ n. read (J m n))) row e next w) (sym (node m same)) (o m same above))
+            subst (λ (p : ℕ). Taken l' (λ q cs. then (run g (d - 1) 0 p q cs) (λ n. read (J m n))) row e next w) (sym (node m same)) (o m same above))
 
         pub two-stays : 2 ^ 63 ≤ y → Taken l' (run g d off i) row at next y
         two-stays b = two-then (λ m same above. last-stays k (J m) (λ n. least m same n .1) le b)

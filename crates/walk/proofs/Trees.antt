@@ -122,11 +122,12 @@ module _ {plan p : List ℕ} {i : ℕ} (r : Reading plan p i) where
     dep-first d off {l} {x = x} {row} {at} h lo s =
         let o = seen-row h s in
         let a = reads-lower r (aWord plan i) (dep-lower r k) in
-        let b = only (sizeIn plan) (a .walks .count) (ruleIn plan p) (a .walks .good) d off (aWord plan i) (a .node) (length row - at) (drop at row) (o .is) .0 in
+        let b = only (sizeIn plan) (a .walks .count) (ruleIn plan p) (a .walks .good) d off (aWord plan i) (a .node) _ _ (o .is) .0 in
         let f = first-of r k (o .m) b in
         by (o .m) (o .same) (o .above) (f .0) (f .1) (ltb x (2 ^ 63)) refl
       where
-        by : (m : ℕ) → (x < 2 ^ 63 → m ≡ x) → (2 ^ 63 ≤ x → l ≤ m) → m < firsts plan (aWord plan i) → firsts plan (aWord plan i) ≤ 256 → (q : Bool) → ltb x (2 ^ 63) ≡ q
+        by : (m : ℕ) → (x < 2 ^ 63 → m ≡ x) → (2 ^ 63 ≤ x → l ≤ m) → m < firsts plan (aWord plan i) → firsts plan (aWord plan i) ≤ 256 → (q : Bool)
+            → ltb x (2 ^ 63) ≡ q
             → (x < 2 ^ 63) × (x < firsts plan (aWord plan i))
         by m same above u v true b = let z = ltb-true x (2 ^ 63) b in let w = same z in (z, omega arith)
         by m same above u v false b = let z = above (ltb-false x (2 ^ 63) b) in absurd (omega arith)
@@ -135,11 +136,13 @@ module _ {plan p : List ℕ} {i : ℕ} (r : Reading plan p i) where
       pub dep-node : (m : ℕ) → (x < 2 ^ 63 → m ≡ x) → getD cs m 0 ≡ getD p (bWord plan i + x) 0
       dep-node m same = ap (λ (n : ℕ). getD cs n 0) (same small) ∙ second-of r k x l
 
-      pub dep-most : (m : ℕ) → (x < 2 ^ 63 → m ≡ x) → (n : ℕ) → (m ≤ Dep.join (secondsOf (sizeIn plan) cs) m n) × (n ≤ Dep.join (secondsOf (sizeIn plan) cs) m n)
+      pub dep-most : (m : ℕ) → (x < 2 ^ 63 → m ≡ x) → (n : ℕ)
+          → (m ≤ Dep.join (secondsOf (sizeIn plan) cs) m n) × (n ≤ Dep.join (secondsOf (sizeIn plan) cs) m n)
       dep-most m same n = dep-least r k m (rw (same small) l) n
 
     -- a first part that is not read
-    pub dep-stops : (off : ℕ) {d : ℕ} → (d ≡ 0 → ⊥) → {l l' e x : ℕ} {row : List ℕ} {at : ℕ} → Taken l (run (ruleIn plan p) (d - 1) off (aWord plan i)) row at e x → 2 ^ 62 ≤ l
+    pub dep-stops : (off : ℕ) {d : ℕ} → (d ≡ 0 → ⊥) → {l l' e x : ℕ} {row : List ℕ} {at : ℕ}
+        → Taken l (run (ruleIn plan p) (d - 1) off (aWord plan i)) row at e x → 2 ^ 62 ≤ l
         → 2 ^ 63 ≤ x → Taken l' (run (ruleIn plan p) d off i) row at e x
     dep-stops off {d} f {x = x} h lo big =
         ⊎-elim (λ s. absurd (omega (arith, dep-first (d - 1) off h lo s .0))) (λ s. two-stops (ruleIn plan p) i off f dep-tree h s) (le-or-lt x (2 ^ 63))

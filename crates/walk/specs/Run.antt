@@ -1,5 +1,6 @@
 -- The walk that reads. "Reading walks the same nodes from cells."
 --   Read     the number, the cells that the case may still have, and the cells after it; or the first of 13, 14 and 15
+--   then, fit, cellOf   what is read after a part, or of a cell
 --   follow   what a tree reads, given what its parts read
 --   run      what is read from node i, with a depth left
 -- q is how many cells the case may still have, cs the cells to come; `off` is what the shifts above take off the first cell. Numbers have no limit here.

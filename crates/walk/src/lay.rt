@@ -127,7 +127,15 @@ pub fn lay(
             let c = pool[b as usize + q.first as usize] as usize;
             both(lent, words, a, q.first, c, q.second, left - 1, out)
         }
-        EXCEPT => lay(lent, words, a, numbers::except::split(b, n), 0, left - 1, out),
+        EXCEPT => lay(
+            lent,
+            words,
+            a,
+            numbers::except::split(b, n),
+            0,
+            left - 1,
+            out,
+        ),
         FIX => lay(lent, words, a, n, 0, left - 1, out),
         AGAIN => lay(lent, words, a, n, 0, left - 1, out),
         // Not reached: a checked plan has no other kind.

@@ -97,7 +97,16 @@ pub fn tally(lent: &&[u64], words: &&[u64], i: usize, n: u64, left: usize, room:
         },
         CONS => {
             let q = cons_split(plan, a, b as usize, n);
-            both(lent, words, a, q.first, b as usize, q.second, left - 1, room)
+            both(
+                lent,
+                words,
+                a,
+                q.first,
+                b as usize,
+                q.second,
+                left - 1,
+                room,
+            )
         }
         DEP => {
             let pool = *words;

@@ -14,7 +14,19 @@ use Rattle.walk.proofs.Visit.{walk-deep, walk-cell, walk-word, walk-pas
 use Rattle.walk.proofs.Nodes.{in-plan, known, shift-small, shift-raised, or-lower, cons-lower, parts-in, words-some, raised-none, raised-zero}
 use Rattle.walk.proofs.Deps.{dep-in}
 use Rattle.walk.proofs.Items.{
-  below-items, nats-items, pool-items, pool-place, shift-items, or-first, or-second, cons-items, dep-items, dep-place, except-items, fix-items, again-items,
+  below-items,
+  nats-items,
+  pool-items,
+  pool-place,
+  shift-items,
+  or-first,
+  or-second,
+  cons-items,
+  dep-items,
+  dep-place,
+  except-items,
+  fix-items,
+  again-items,
 }
 use Rattle.walk.proofs.Calls.{laid-by, lay-part, lay-shift, lay-tagged, lay-both}
 use Rattle.walk.proofs.lay.both.Reads as both
@@ -64,8 +76,22 @@ module _ (t : ℕ) where
 
   abbrev calls : lay-lts.Claims
   calls = (
-    put-reads.Asked, put-reads.Learnt, lay-below, lay.Post, or-split-reads.Asked, or-split-reads.Learnt, tagged-below, tagged.Post,
-    cons-split-reads.Asked, cons-split-reads.Learnt, both-below, both.Post, parts-reads.Asked, parts-reads.Learnt, split-reads.Asked, split-reads.Learnt,
+    put-reads.Asked,
+    put-reads.Learnt,
+    lay-below,
+    lay.Post,
+    or-split-reads.Asked,
+    or-split-reads.Learnt,
+    tagged-below,
+    tagged.Post,
+    cons-split-reads.Asked,
+    cons-split-reads.Learnt,
+    both-below,
+    both.Post,
+    parts-reads.Asked,
+    parts-reads.Learnt,
+    split-reads.Asked,
+    split-reads.Learnt,
   )
 
   -- the first part's walk, and then the second's over what is left; and a tag, and then a part's
@@ -82,15 +108,55 @@ module _ (t : ℕ) where
 pub +both+lay+tagged-spec : {M : Type 1} → statement M
 +both+lay+tagged-spec = close μ-both μ-lay μ-tagged
     (λ t. both-lts.spec (lay-below t, lay.Post) (both-at t) both.Post
-    (λ c κs. let p = c .before .before .pre in (omega (arith, p .0), ((p .1 .0 .0, raised-zero _ _), (p .1 .1 .0, omega (arith, p .1 .1 .2), p .1 .1 .2, p .1 .1 .3))))
+    (λ c κs. let at-pre = c .before .before in let p = at-pre .pre in (
+      omega (arith, p .0),
+      ((p .1 .0 .0, raised-zero _ _), (p .1 .1 .0, omega (arith, p .1 .1 .2), p .1 .1 .2, p .1 .1 .3)),
+    ))
     (λ c. c .before .before .before .lay .ensures .long)
     (λ c. laid-stops _ (c .before .before .before .lay .ensures) (c .if1 .taken))
-    (λ c. omega (arith, left-within _ (c .before .before .before .lay .ensures .is) (c .if1 .left), c .before .before .before .lay .ensures .long, c .before .before .before .before .before .before .pre .1 .1 .3))
-    (λ c. omega (arith, left-within _ (c .before .before .before .lay .ensures .is) (c .if1 .left), c .before .before .before .lay .ensures .long, c .before .before .before .before .before .before .pre .1 .1 .3))
-    (λ c. omega (arith, left-within _ (c .before .before .before .lay .ensures .is) (c .if1 .left), c .before .before .before .lay .ensures .long, c .before .before .before .before .before .before .pre .1 .1 .3))
-    (λ c. omega (arith, left-within _ (c .before .before .before .lay .ensures .is) (c .if1 .left), c .before .before .before .lay .ensures .long, c .before .before .before .before .before .before .pre .1 .1 .3))
-    (λ c. omega (arith, left-within _ (c .before .before .before .lay .ensures .is) (c .if1 .left), c .before .before .before .lay .ensures .long, c .before .before .before .before .before .before .pre .1 .1 .3))
-    (λ c κs. let p = c .before .before .before .before .before .before .before .pre in (omega (arith, p .0), ((p .1 .0 .1, raised-zero _ _), (p .1 .1 .1, omega (arith, p .1 .1 .2), p .1 .1 .2, lent-most _ (c .before .before .before .before .lay .ensures) (p .1 .1 .3)))))
+    (λ c. let at-lay = c .before .before .before in let at-pre = at-lay .before .before .before in omega (
+      arith,
+      left-within _
+          (at-lay .lay .ensures .is) (c .if1 .left),
+      at-lay .lay .ensures .long,
+      at-pre .pre .1 .1 .3,
+    ))
+    (λ c. let at-lay = c .before .before .before in let at-pre = at-lay .before .before .before in omega (
+      arith,
+      left-within _
+          (at-lay .lay .ensures .is) (c .if1 .left),
+      at-lay .lay .ensures .long,
+      at-pre .pre .1 .1 .3,
+    ))
+    (λ c. let at-lay = c .before .before .before in let at-pre = at-lay .before .before .before in omega (
+      arith,
+      left-within _
+          (at-lay .lay .ensures .is) (c .if1 .left),
+      at-lay .lay .ensures .long,
+      at-pre .pre .1 .1 .3,
+    ))
+    (λ c. let at-lay = c .before .before .before in let at-pre = at-lay .before .before .before in omega (
+      arith,
+      left-within _
+          (at-lay .lay .ensures .is) (c .if1 .left),
+      at-lay .lay .ensures .long,
+      at-pre .pre .1 .1 .3,
+    ))
+    (λ c. let at-lay = c .before .before .before in let at-pre = at-lay .before .before .before in omega (
+      arith,
+      left-within _
+          (at-lay .lay .ensures .is) (c .if1 .left),
+      at-lay .lay .ensures .long,
+      at-pre .pre .1 .1 .3,
+    ))
+    (λ c κs. let at-lay = c .before .before .before .before in let at-pre = at-lay .before .before .before in let p = at-pre .pre in (
+      omega
+          (arith, p .0),
+      (
+        (p .1 .0 .1, raised-zero _ _),
+        (p .1 .1 .1, omega (arith, p .1 .1 .2), p .1 .1 .2, lent-most _ (at-lay .lay .ensures) (p .1 .1 .3)),
+      ),
+    ))
     (λ c. both-two t c .long)
     (λ c. both-two t c))
     (λ t. lay-lts.spec (calls t) (lay-at t) lay.Post
@@ -110,58 +176,117 @@ pub +both+lay+tagged-spec : {M : Type 1} → statement M
     (λ c κs. c .before .before .before .before .before .before .before .before .pre .1 .1 .3)
     (λ c. let h = c .before .before .before .before .before .before .before .pre .1 .1 in omega (arith, h .0, h .1))
     (λ c κs. c .before .before .before .before .before .before .before .before .pre .1 .1 .3)
-    (λ c. let q = pool-place (c .before .before .before .before .before .before .before .before .pre .1 .0 .0) (c .before .match .keys3) in omega (arith, q .0, q .1))
-    (λ c. let q = pool-place (c .before .before .before .before .before .before .before .before .pre .1 .0 .0) (c .before .match .keys3) in omega (arith, q .0, q .1))
-    (λ c. let q = pool-place (c .before .before .before .before .before .before .before .before .before .pre .1 .0 .0) (c .before .before .match .keys3) in omega (arith, q .0, q .1))
+    (λ c. let at-match = c .before in let at-pre = at-match .before .before .before .before .before .before .before in
+    let q = pool-place (at-pre .pre .1 .0 .0) (at-match .match .keys3) in omega (arith, q .0, q .1))
+    (λ c. let at-match = c .before in let at-pre = at-match .before .before .before .before .before .before .before in
+    let q = pool-place (at-pre .pre .1 .0 .0) (at-match .match .keys3) in omega (arith, q .0, q .1))
+    (λ c. let at-match = c .before .before in let at-pre = at-match .before .before .before .before .before .before .before in
+    let q = pool-place (at-pre .pre .1 .0 .0) (at-match .match .keys3) in omega (arith, q .0, q .1))
     (λ c κs. c .before .before .before .before .before .before .before .before .before .before .pre .1 .1 .3)
-    (λ c. let h = c .before .before .before .before .before .before .before .pre .1 .1 in omega (arith, h .1, shift-small (visited (c .before .before .before .before .before .before .before .pre .1 .0 .0)) (c .match .keys4)))
+    (λ c. let at-pre = c .before .before .before .before .before .before .before in let h = at-pre .pre .1 .1 in omega
+    (arith, h .1, shift-small (visited (at-pre .pre .1 .0 .0)) (c .match .keys4)))
     (λ c. omega (arith, c .before .before .before .before .before .if1 .left))
-    (λ c κs. lay-shift _ (c .before .before .before .before .before .before .before .before .pre .0) (c .before .before .before .before .before .before .if1 .left) (c .before .before .before .before .before .before .before .before .pre .1 .1) (next-by (c .before .before .before .before .before .before .before .before .pre .1 .0 .0) (shift-items (c .before .before .before .before .before .before .before .before .pre .1 .0 .0) (c .before .match .keys4)) .0) (shift-raised (visited (c .before .before .before .before .before .before .before .before .pre .1 .0 .0)) (c .before .match .keys4) _) (shift-small (visited (c .before .before .before .before .before .before .before .before .pre .1 .0 .0)) (c .before .match .keys4)))
-    (λ c κs. parts-in (visited (c .before .before .before .before .before .before .before .pre .1 .0 .0)) (or-lower (visited (c .before .before .before .before .before .before .before .pre .1 .0 .0)) (c .match .keys5)))
+    (λ c κs. let at-match = c .before in let k = at-match .match .keys4 in let at-if1 = at-match .before .before .before .before .before in
+    let at-pre = at-if1 .before .before in let v = at-pre .pre .1 .0 .0 in lay-shift _ (at-pre .pre .0) (at-if1 .if1 .left)
+    (at-pre .pre .1 .1) (next-by v (shift-items v k) .0) (shift-raised (visited v) k _) (shift-small (visited v) k))
+    (λ c κs. let at-pre = c .before .before .before .before .before .before .before in let v = at-pre .pre .1 .0 .0 in parts-in (visited v)
+    (or-lower (visited v) (c .match .keys5)))
     (λ c. search needs)
     (λ c. omega (arith, c .before .before .before .before .before .before .before .before .before .if1 .left))
-    (λ c κs. lay-tagged _ (c .before .before .before .before .before .before .before .before .before .before .before .before .pre .0) (c .before .before .before .before .before .before .before .before .before .before .if1 .left) (c .before .before .before .before .before .before .before .before .before .before .before .before .pre .1 .1) (next-by (c .before .before .before .before .before .before .before .before .before .before .before .before .pre .1 .0 .0) (or-first (c .before .before .before .before .before .before .before .before .before .before .before .before .pre .1 .0 .0) (c .before .before .before .before .before .match .keys5) (c .before .before .before .before .or-split .ensures) (c .before .before .m .given .1)) .0))
+    (λ c κs. let at-m = c .before .before in let at-or-split = at-m .before .before in let at-match = at-or-split .before in
+    let at-if1 = at-match .before .before .before .before .before in let at-pre = at-if1 .before .before in let v = at-pre .pre .1 .0 .0 in
+    lay-tagged _ (at-pre .pre .0) (at-if1 .if1 .left) (at-pre .pre .1 .1)
+    (next-by v (or-first v (at-match .match .keys5) (at-or-split .or-split .ensures) (at-m .m .given .1)) .0))
     (λ c. search needs)
     (λ c. omega (arith, c .before .before .before .before .before .before .before .before .before .if1 .left))
-    (λ c κs. lay-tagged _ (c .before .before .before .before .before .before .before .before .before .before .before .before .pre .0) (c .before .before .before .before .before .before .before .before .before .before .if1 .left) (c .before .before .before .before .before .before .before .before .before .before .before .before .pre .1 .1) (next-by (c .before .before .before .before .before .before .before .before .before .before .before .before .pre .1 .0 .0) (or-second (c .before .before .before .before .before .before .before .before .before .before .before .before .pre .1 .0 .0) (c .before .before .before .before .before .match .keys5) (c .before .before .before .before .or-split .ensures) (c .before .before .m2 .given .1)) .0))
-    (λ c κs. let l = cons-lower (visited (c .before .before .before .before .before .before .before .pre .1 .0 .0)) (c .match .keys6) in (parts-in (visited (c .before .before .before .before .before .before .before .pre .1 .0 .0)) l, words-some (visited (c .before .before .before .before .before .before .before .pre .1 .0 .0)) l))
+    (λ c κs. let at-m2 = c .before .before in let at-or-split = at-m2 .before .before in let at-match = at-or-split .before in
+    let at-if1 = at-match .before .before .before .before .before in let at-pre = at-if1 .before .before in let v = at-pre .pre .1 .0 .0 in
+    lay-tagged _ (at-pre .pre .0) (at-if1 .if1 .left) (at-pre .pre .1 .1)
+    (next-by v (or-second v (at-match .match .keys5) (at-or-split .or-split .ensures) (at-m2 .m2 .given .1)) .0))
+    (λ c κs. let at-pre = c .before .before .before .before .before .before .before in let v = at-pre .pre .1 .0 .0 in
+    let l = cons-lower (visited v) (c .match .keys6) in (parts-in (visited v) l, words-some (visited v) l))
     (λ c. omega (arith, c .before .before .before .before .before .before .if1 .left))
-    (λ c κs. let n = next-by (c .before .before .before .before .before .before .before .before .before .pre .1 .0 .0) (cons-items (c .before .before .before .before .before .before .before .before .before .pre .1 .0 .0) (c .before .before .match .keys6) (c .before .cons-split .ensures)) in lay-both _ (c .before .before .before .before .before .before .before .before .before .pre .0) (c .before .before .before .before .before .before .before .if1 .left) (c .before .before .before .before .before .before .before .before .before .pre .1 .1) (n .0) (n .1 .0))
+    (λ c κs. let at-cons-split = c .before in let at-match = at-cons-split .before in
+    let at-if1 = at-match .before .before .before .before .before in let at-pre = at-if1 .before .before in let v = at-pre .pre .1 .0 .0 in
+    let n = next-by v (cons-items v (at-match .match .keys6) (at-cons-split .cons-split .ensures)) in lay-both _ (at-pre .pre .0)
+    (at-if1 .if1 .left) (at-pre .pre .1 .1) (n .0) (n .1 .0))
     (λ c κs. dep-in (visited (c .before .before .before .before .before .before .before .before .pre .1 .0 .0)) (c .before .match .keys7))
-    (λ c. let q = dep-place (c .before .before .before .before .before .before .before .before .before .pre .1 .0 .0) (c .before .before .match .keys7) (c .parts .ensures) in omega (arith, q .0, q .1))
-    (λ c. let q = dep-place (c .before .before .before .before .before .before .before .before .before .pre .1 .0 .0) (c .before .before .match .keys7) (c .parts .ensures) in omega (arith, q .0, q .1))
-    (λ c. let q = dep-place (c .before .before .before .before .before .before .before .before .before .before .pre .1 .0 .0) (c .before .before .before .match .keys7) (c .before .parts .ensures) in omega (arith, q .0, q .1))
+    (λ c. let at-match = c .before .before in let at-pre = at-match .before .before .before .before .before .before .before in
+    let q = dep-place (at-pre .pre .1 .0 .0) (at-match .match .keys7) (c .parts .ensures) in omega (arith, q .0, q .1))
+    (λ c. let at-match = c .before .before in let at-pre = at-match .before .before .before .before .before .before .before in
+    let q = dep-place (at-pre .pre .1 .0 .0) (at-match .match .keys7) (c .parts .ensures) in omega (arith, q .0, q .1))
+    (λ c. let at-parts = c .before in let at-match = at-parts .before .before in
+    let at-pre = at-match .before .before .before .before .before .before .before in
+    let q = dep-place (at-pre .pre .1 .0 .0) (at-match .match .keys7) (at-parts .parts .ensures) in omega (arith, q .0, q .1))
     (λ c. omega (arith, c .before .before .before .before .before .before .before .before .if1 .left))
-    (λ c κs. let n = next-by (c .before .before .before .before .before .before .before .before .before .before .before .pre .1 .0 .0) (dep-items (c .before .before .before .before .before .before .before .before .before .before .before .pre .1 .0 .0) (c .before .before .before .before .match .keys7) (c .before .before .parts .ensures)) in lay-both _ (c .before .before .before .before .before .before .before .before .before .before .before .pre .0) (c .before .before .before .before .before .before .before .before .before .if1 .left) (c .before .before .before .before .before .before .before .before .before .before .before .pre .1 .1) (n .0) (n .1 .0))
+    (λ c κs. let at-parts = c .before .before in let at-match = at-parts .before .before in
+    let at-if1 = at-match .before .before .before .before .before in let at-pre = at-if1 .before .before in let v = at-pre .pre .1 .0 .0 in
+    let n = next-by v (dep-items v (at-match .match .keys7) (at-parts .parts .ensures)) in lay-both _ (at-pre .pre .0) (at-if1 .if1 .left)
+    (at-pre .pre .1 .1) (n .0) (n .1 .0))
     (λ c κs. omega (arith, c .before .before .before .before .before .before .before .pre .1 .1 .0))
     (λ c. omega (arith, c .before .before .before .before .before .before .if1 .left))
-    (λ c κs. lay-part _ (c .before .before .before .before .before .before .before .before .before .pre .0) (c .before .before .before .before .before .before .before .if1 .left) (c .before .before .before .before .before .before .before .before .before .pre .1 .1) (next-by (c .before .before .before .before .before .before .before .before .before .pre .1 .0 .0) (except-items (c .before .before .before .before .before .before .before .before .before .pre .1 .0 .0) (c .before .before .match .keys8) (c .before .split .ensures)) .0))
+    (λ c κs. let at-split = c .before in let at-match = at-split .before in let at-if1 = at-match .before .before .before .before .before in
+    let at-pre = at-if1 .before .before in let v = at-pre .pre .1 .0 .0 in lay-part _ (at-pre .pre .0) (at-if1 .if1 .left) (at-pre .pre .1 .1)
+    (next-by v (except-items v (at-match .match .keys8) (at-split .split .ensures)) .0))
     (λ c. omega (arith, c .before .before .before .before .before .if1 .left))
-    (λ c κs. lay-part _ (c .before .before .before .before .before .before .before .before .pre .0) (c .before .before .before .before .before .before .if1 .left) (c .before .before .before .before .before .before .before .before .pre .1 .1) (next-by (c .before .before .before .before .before .before .before .before .pre .1 .0 .0) (fix-items (c .before .before .before .before .before .before .before .before .pre .1 .0 .0) (c .before .match .keys9)) .0))
+    (λ c κs. let at-match = c .before in let at-if1 = at-match .before .before .before .before .before in
+    let at-pre = at-if1 .before .before in let v = at-pre .pre .1 .0 .0 in lay-part _ (at-pre .pre .0) (at-if1 .if1 .left) (at-pre .pre .1 .1)
+    (next-by v (fix-items v (at-match .match .keys9)) .0))
     (λ c. omega (arith, c .before .before .before .before .before .if1 .left))
-    (λ c κs. lay-part _ (c .before .before .before .before .before .before .before .before .pre .0) (c .before .before .before .before .before .before .if1 .left) (c .before .before .before .before .before .before .before .before .pre .1 .1) (next-by (c .before .before .before .before .before .before .before .before .pre .1 .0 .0) (again-items (c .before .before .before .before .before .before .before .before .pre .1 .0 .0) (c .before .match .keys10)) .0))
+    (λ c κs. let at-match = c .before in let at-if1 = at-match .before .before .before .before .before in
+    let at-pre = at-if1 .before .before in let v = at-pre .pre .1 .0 .0 in lay-part _ (at-pre .pre .0) (at-if1 .if1 .left) (at-pre .pre .1 .1)
+    (next-by v (again-items v (at-match .match .keys10)) .0))
     (λ c. c .before .before .put .ensures .long)
-    (λ c. laid-by (walk-cell _ _ _ _ (c .before .before .before .before .before .before .before .before .before .if1 .left) (below-items (c .before .before .before .before .before .before .before .before .before .before .before .pre .1 .0 .0) (c .before .before .before .before .match .keys1)) refl) (c .before .before .put .ensures))
+    (λ c. let at-put = c .before .before in let at-match = at-put .before .before in
+    let at-if1 = at-match .before .before .before .before .before in let at-pre = at-if1 .before .before in laid-by
+    (walk-cell _ _ _ _ (at-if1 .if1 .left) (below-items (at-pre .pre .1 .0 .0) (at-match .match .keys1)) refl) (at-put .put .ensures))
     (λ c. c .before .before .put2 .ensures .long)
-    (λ c. laid-by (walk-cell _ _ _ _ (c .before .before .before .before .before .before .before .before .before .if1 .left) (nats-items (c .before .before .before .before .before .before .before .before .before .before .before .pre .1 .0 .0) (c .before .before .before .before .match .keys2)) refl) (c .before .before .put2 .ensures))
+    (λ c. let at-put2 = c .before .before in let at-match = at-put2 .before .before in
+    let at-if1 = at-match .before .before .before .before .before in let at-pre = at-if1 .before .before in laid-by
+    (walk-cell _ _ _ _ (at-if1 .if1 .left) (nats-items (at-pre .pre .1 .0 .0) (at-match .match .keys2)) refl) (at-put2 .put2 .ensures))
     (λ c. c .before .before .put3 .ensures .long)
-    (λ c. laid-by (walk-word _ _ _ _ (c .before .before .before .before .before .before .before .before .before .before .before .if1 .left) (pool-items (c .before .before .before .before .before .before .before .before .before .before .before .before .before .pre .1 .0 .0) (c .before .before .before .before .before .before .match .keys3)) (raised-none (c .before .before .before .before .before .before .before .before .before .before .before .before .before .pre .1 .0 .1) (c .before .before .before .before .before .before .match .keys3) refl)) (c .before .before .put3 .ensures))
+    (λ c. let at-put3 = c .before .before in let at-match = at-put3 .before .before .before .before in let k = at-match .match .keys3 in
+    let at-if1 = at-match .before .before .before .before .before in let at-pre = at-if1 .before .before in laid-by (walk-word _ _ _ _
+    (at-if1 .if1 .left) (pool-items (at-pre .pre .1 .0 .0) k) (raised-none (at-pre .pre .1 .0 .1) k refl)) (at-put3 .put3 .ensures))
     (λ c. c .before .before .lay .ensures .long)
-    (λ c. laid-by (walk-pass _ _ _ _ (c .before .before .before .before .before .before .before .before .before .if1 .left) (shift-items (c .before .before .before .before .before .before .before .before .before .before .before .pre .1 .0 .0) (c .before .before .before .before .match .keys4)) refl) (c .before .before .lay .ensures))
+    (λ c. let at-lay = c .before .before in let at-match = at-lay .before .before in
+    let at-if1 = at-match .before .before .before .before .before in let at-pre = at-if1 .before .before in laid-by
+    (walk-pass _ _ _ _ (at-if1 .if1 .left) (shift-items (at-pre .pre .1 .0 .0) (at-match .match .keys4)) refl) (at-lay .lay .ensures))
     (λ c. c .before .before .tagged .ensures .long)
-    (λ c. laid-by (walk-tag _ _ _ _ (c .before .before .before .before .before .before .before .before .before .before .before .before .before .if1 .left) (or-first (c .before .before .before .before .before .before .before .before .before .before .before .before .before .before .before .pre .1 .0 .0) (c .before .before .before .before .before .before .before .before .match .keys5) (c .before .before .before .before .before .before .before .or-split .ensures) (c .before .before .before .before .before .m .given .1)) (raised-none (c .before .before .before .before .before .before .before .before .before .before .before .before .before .before .before .pre .1 .0 .1) (c .before .before .before .before .before .before .before .before .match .keys5) refl)) (c .before .before .tagged .ensures))
+    (λ c. let at-tagged = c .before .before in let at-m = at-tagged .before .before .before in let at-or-split = at-m .before .before in
+    let at-match = at-or-split .before in let k = at-match .match .keys5 in let at-if1 = at-match .before .before .before .before .before in
+    let at-pre = at-if1 .before .before in laid-by (walk-tag _ _ _ _ (at-if1 .if1 .left)
+    (or-first (at-pre .pre .1 .0 .0) k (at-or-split .or-split .ensures) (at-m .m .given .1)) (raised-none (at-pre .pre .1 .0 .1) k refl))
+    (at-tagged .tagged .ensures))
     (λ c. c .before .before .tagged2 .ensures .long)
-    (λ c. laid-by (walk-tag _ _ _ _ (c .before .before .before .before .before .before .before .before .before .before .before .before .before .if1 .left) (or-second (c .before .before .before .before .before .before .before .before .before .before .before .before .before .before .before .pre .1 .0 .0) (c .before .before .before .before .before .before .before .before .match .keys5) (c .before .before .before .before .before .before .before .or-split .ensures) (c .before .before .before .before .before .m2 .given .1)) (raised-none (c .before .before .before .before .before .before .before .before .before .before .before .before .before .before .before .pre .1 .0 .1) (c .before .before .before .before .before .before .before .before .match .keys5) refl)) (c .before .before .tagged2 .ensures))
+    (λ c. let at-tagged2 = c .before .before in let at-m2 = at-tagged2 .before .before .before in let at-or-split = at-m2 .before .before in
+    let at-match = at-or-split .before in let k = at-match .match .keys5 in let at-if1 = at-match .before .before .before .before .before in
+    let at-pre = at-if1 .before .before in laid-by (walk-tag _ _ _ _ (at-if1 .if1 .left)
+    (or-second (at-pre .pre .1 .0 .0) k (at-or-split .or-split .ensures) (at-m2 .m2 .given .1)) (raised-none (at-pre .pre .1 .0 .1) k refl))
+    (at-tagged2 .tagged2 .ensures))
     (λ c. c .before .before .both .ensures .long)
-    (λ c. laid-by (walk-two _ _ _ _ (c .before .before .before .before .before .before .before .before .before .before .if1 .left) (cons-items (c .before .before .before .before .before .before .before .before .before .before .before .before .pre .1 .0 .0) (c .before .before .before .before .before .match .keys6) (c .before .before .before .before .cons-split .ensures)) (raised-none (c .before .before .before .before .before .before .before .before .before .before .before .before .pre .1 .0 .1) (c .before .before .before .before .before .match .keys6) refl)) (c .before .before .both .ensures))
+    (λ c. let at-both = c .before .before in let at-cons-split = at-both .before .before in let at-match = at-cons-split .before in
+    let k = at-match .match .keys6 in let at-if1 = at-match .before .before .before .before .before in let at-pre = at-if1 .before .before in
+    laid-by (walk-two _ _ _ _ (at-if1 .if1 .left) (cons-items (at-pre .pre .1 .0 .0) k (at-cons-split .cons-split .ensures))
+    (raised-none (at-pre .pre .1 .0 .1) k refl)) (at-both .both .ensures))
     (λ c. c .before .before .both2 .ensures .long)
-    (λ c. laid-by (walk-two _ _ _ _ (c .before .before .before .before .before .before .before .before .before .before .before .before .if1 .left) (dep-items (c .before .before .before .before .before .before .before .before .before .before .before .before .before .before .pre .1 .0 .0) (c .before .before .before .before .before .before .before .match .keys7) (c .before .before .before .before .before .parts .ensures)) (raised-none (c .before .before .before .before .before .before .before .before .before .before .before .before .before .before .pre .1 .0 .1) (c .before .before .before .before .before .before .before .match .keys7) refl)) (c .before .before .both2 .ensures))
+    (λ c. let at-both2 = c .before .before in let at-parts = at-both2 .before .before .before in let at-match = at-parts .before .before in
+    let k = at-match .match .keys7 in let at-if1 = at-match .before .before .before .before .before in let at-pre = at-if1 .before .before in
+    laid-by (walk-two _ _ _ _ (at-if1 .if1 .left) (dep-items (at-pre .pre .1 .0 .0) k (at-parts .parts .ensures))
+    (raised-none (at-pre .pre .1 .0 .1) k refl)) (at-both2 .both2 .ensures))
     (λ c. c .before .before .lay2 .ensures .long)
-    (λ c. laid-by (walk-same _ _ _ _ (c .before .before .before .before .before .before .before .before .before .before .if1 .left) (except-items (c .before .before .before .before .before .before .before .before .before .before .before .before .pre .1 .0 .0) (c .before .before .before .before .before .match .keys8) (c .before .before .before .before .split .ensures)) (raised-none (c .before .before .before .before .before .before .before .before .before .before .before .before .pre .1 .0 .1) (c .before .before .before .before .before .match .keys8) refl)) (c .before .before .lay2 .ensures))
+    (λ c. let at-lay2 = c .before .before in let at-split = at-lay2 .before .before in let at-match = at-split .before in
+    let k = at-match .match .keys8 in let at-if1 = at-match .before .before .before .before .before in let at-pre = at-if1 .before .before in
+    laid-by (walk-same _ _ _ _ (at-if1 .if1 .left) (except-items (at-pre .pre .1 .0 .0) k (at-split .split .ensures))
+    (raised-none (at-pre .pre .1 .0 .1) k refl)) (at-lay2 .lay2 .ensures))
     (λ c. c .before .before .lay3 .ensures .long)
-    (λ c. laid-by (walk-same _ _ _ _ (c .before .before .before .before .before .before .before .before .before .if1 .left) (fix-items (c .before .before .before .before .before .before .before .before .before .before .before .pre .1 .0 .0) (c .before .before .before .before .match .keys9)) (raised-none (c .before .before .before .before .before .before .before .before .before .before .before .pre .1 .0 .1) (c .before .before .before .before .match .keys9) refl)) (c .before .before .lay3 .ensures))
+    (λ c. let at-lay3 = c .before .before in let at-match = at-lay3 .before .before in let k = at-match .match .keys9 in
+    let at-if1 = at-match .before .before .before .before .before in let at-pre = at-if1 .before .before in laid-by (walk-same _ _ _ _
+    (at-if1 .if1 .left) (fix-items (at-pre .pre .1 .0 .0) k) (raised-none (at-pre .pre .1 .0 .1) k refl)) (at-lay3 .lay3 .ensures))
     (λ c. c .before .before .lay4 .ensures .long)
-    (λ c. laid-by (walk-same _ _ _ _ (c .before .before .before .before .before .before .before .before .before .if1 .left) (again-items (c .before .before .before .before .before .before .before .before .before .before .before .pre .1 .0 .0) (c .before .before .before .before .match .keys10)) (raised-none (c .before .before .before .before .before .before .before .before .before .before .before .pre .1 .0 .1) (c .before .before .before .before .match .keys10) refl)) (c .before .before .lay4 .ensures))
+    (λ c. let at-lay4 = c .before .before in let at-match = at-lay4 .before .before in let k = at-match .match .keys10 in
+    let at-if1 = at-match .before .before .before .before .before in let at-pre = at-if1 .before .before in laid-by (walk-same _ _ _ _
+    (at-if1 .if1 .left) (again-items (at-pre .pre .1 .0 .0) k) (raised-none (at-pre .pre .1 .0 .1) k refl)) (at-lay4 .lay4 .ensures))
     (λ c. absurd (known (visited (c .before .before .before .before .before .before .before .pre .1 .0 .0)) (c .match .rest))))
     (λ t. tagged-lts.spec (lay-below t, lay.Post) (tagged-at t) tagged.Post
     (λ c. laid-none _ _ (c .if1 .taken))
@@ -169,6 +294,18 @@ pub +both+lay+tagged-spec : {M : Type 1} → statement M
     (λ c. simp length-set (omega (arith, c .if1 .left)))
     (λ c. simp length-set (omega (arith, c .if1 .left)))
     (λ c. simp length-set (omega (arith, c .if1 .left)))
-    (λ c κs. let p = c .before .before .before .pre in (omega (arith, p .0), ((p .1 .0, raised-zero _ _), (p .1 .1 .0, omega (arith, p .1 .1 .1), p .1 .1 .1, lent-set (c .before .before .before .args .tag) (c .before .before .before .args .out .now) (p .1 .1 .2)))))
+    (λ c κs. let at-args = c .before .before .before in let p = at-args .pre in (
+      omega (arith, p .0),
+      (
+        (p .1 .0, raised-zero _ _),
+        (
+          p .1 .1
+              .0,
+          omega (arith, p .1 .1 .1),
+          p .1 .1 .1,
+          lent-set (at-args .args .tag) (at-args .args .out .now) (p .1 .1 .2),
+        ),
+      ),
+    ))
     (λ c. tagged-one t c .long)
     (λ c. tagged-one t c))

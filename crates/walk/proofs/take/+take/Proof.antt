@@ -9,17 +9,65 @@ use borrow.Fn.Kinds.{In}
 use borrow.Fn.PlainCycle.{Measures, is, falls, and}
 use Rattle.walk.specs.Took.{wordOf}
 use Rattle.walk.proofs.Nodes.{
-  in-plan, known, reads-lower, below-rule, below-most, nats-rule, pool-rule, pool-in, shift-lower, shift-small, or-lower, cons-lower, first-reads,
-  second-reads, parts-in, except-lower, except-small, fix-reads, again-reads,
+  in-plan,
+  known,
+  reads-lower,
+  below-rule,
+  below-most,
+  nats-rule,
+  pool-rule,
+  pool-in,
+  shift-lower,
+  shift-small,
+  or-lower,
+  cons-lower,
+  first-reads,
+  second-reads,
+  parts-in,
+  except-lower,
+  except-small,
+  fix-reads,
+  again-reads,
 }
 use Rattle.walk.proofs.Deps.{dep-in, dep-lower, second-place, chosen-reads}
 use Rattle.walk.proofs.Leaves.{nats-leaf}
 use Rattle.walk.proofs.Takes.{
-  deep-taken, tree-taken, pass-taken, tag-stops, tag-fails, one-stays, one-number, except-unfit, except-stays, except-number, two-stops, two-stays, two-big, two-number,
+  deep-taken,
+  tree-taken,
+  pass-taken,
+  tag-stops,
+  tag-fails,
+  one-stays,
+  one-number,
+  except-unfit,
+  except-stays,
+  except-number,
+  two-stops,
+  two-stays,
+  two-big,
+  two-number,
 }
 use Rattle.walk.proofs.Trees.{
-  tree-of, shift-tree, or-tree, or-zero, or-one, or-none, turn-least, cons-tree, cons-least, dep-tree, dep-first, dep-stops, dep-node, dep-most, except-tree, fix-tree,
-  again-tree, take-first, take-shift, take-next,
+  tree-of,
+  shift-tree,
+  or-tree,
+  or-zero,
+  or-one,
+  or-none,
+  turn-least,
+  cons-tree,
+  cons-least,
+  dep-tree,
+  dep-first,
+  dep-stops,
+  dep-node,
+  dep-most,
+  except-tree,
+  fix-tree,
+  again-tree,
+  take-first,
+  take-shift,
+  take-next,
 }
 use Rattle.walk.proofs.take.take.Reads as take
 use Rattle.walk.proofs.take.take.Kinds as take-kinds
@@ -46,7 +94,26 @@ module _ (t : ℕ) where
   below-t = and 7 take-kinds.ps (falls 7 take-kinds.ps _<_ μ-take t) take.Pre
 
   abbrev calls : lts.Claims
-  calls = (counted-reads.Asked, counted-reads.Learnt, leaf-reads.Asked, leaf-reads.Learnt, listed-reads.Asked, listed-reads.Learnt, below-t, take.Post, or-join-reads.Asked, or-join-reads.Learnt, word-reads.Asked, word-reads.Learnt, cons-join-reads.Asked, cons-join-reads.Learnt, kinds-dep-join-reads.Asked, kinds-dep-join-reads.Learnt, except-join-reads.Asked, except-join-reads.Learnt)
+  calls = (
+    counted-reads.Asked,
+    counted-reads.Learnt,
+    leaf-reads.Asked,
+    leaf-reads.Learnt,
+    listed-reads.Asked,
+    listed-reads.Learnt,
+    below-t,
+    take.Post,
+    or-join-reads.Asked,
+    or-join-reads.Learnt,
+    word-reads.Asked,
+    word-reads.Learnt,
+    cons-join-reads.Asked,
+    cons-join-reads.Learnt,
+    kinds-dep-join-reads.Asked,
+    kinds-dep-join-reads.Learnt,
+    except-join-reads.Asked,
+    except-join-reads.Learnt,
+  )
 
 pub +take-spec : {M : Type 1} → statement M
 +take-spec = close μ-take λ t. lts.spec (calls t) (at-t t) take.Post
@@ -62,64 +129,174 @@ pub +take-spec : {M : Type 1} → statement M
     (λ c. let q = in-plan (c .before .before .before .before .pre .1 .0) in omega (arith, q .0, q .1))
     (λ c. let q = in-plan (c .before .before .before .before .pre .1 .0) in omega (arith, q .0, q .1))
     (λ c. let q = in-plan (c .before .before .before .before .before .pre .1 .0) in omega (arith, q .0, q .1))
-    (λ c κs. (below-most (c .before .before .before .before .before .before .before .pre .1 .0) (c .before .match .keys1), c .before .before .before .before .before .before .before .pre .1 .1 .2, c .before .before .before .before .before .before .before .pre .1 .1 .3))
-    (λ c κs. (c .before .before .before .before .before .before .before .pre .1 .1 .2, c .before .before .before .before .before .before .before .pre .1 .1 .3))
-    (λ c κs. (pool-in (c .before .before .before .before .before .before .before .pre .1 .0) (c .before .match .keys3), (c .before .before .before .before .before .before .before .pre .1 .1 .2, c .before .before .before .before .before .before .before .pre .1 .1 .3)))
+    (λ c κs. let at-match = c .before in let at-pre = at-match .before .before .before .before .before .before in
+    (below-most (at-pre .pre .1 .0) (at-match .match .keys1), at-pre .pre .1 .1 .2, at-pre .pre .1 .1 .3))
+    (λ c κs. let at-pre = c .before .before .before .before .before .before .before in (at-pre .pre .1 .1 .2, at-pre .pre .1 .1 .3))
+    (λ c κs. let at-match = c .before in let at-pre = at-match .before .before .before .before .before .before in
+    (pool-in (at-pre .pre .1 .0) (at-match .match .keys3), (at-pre .pre .1 .1 .2, at-pre .pre .1 .1 .3)))
     (λ c. omega (arith, c .before .before .before .before .before .if1 .left))
-    (λ c. omega (arith, c .before .before .before .before .before .before .pre .1 .1 .1, shift-small (c .before .before .before .before .before .before .pre .1 .0) (c .match .keys4)))
-    (λ c κs. take-shift _ _ (c .before .before .before .before .before .before .before .pre .0) (c .before .before .before .before .before .before .if1 .left) (c .before .before .before .before .before .before .before .pre .1 .1) (reads-lower (c .before .before .before .before .before .before .before .pre .1 .0) _ (shift-lower (c .before .before .before .before .before .before .before .pre .1 .0) (c .before .match .keys4))) (shift-small (c .before .before .before .before .before .before .before .pre .1 .0) (c .before .match .keys4)))
-    (λ c κs. (c .before .before .before .before .before .before .before .pre .1 .1 .2, c .before .before .before .before .before .before .before .pre .1 .1 .3))
+    (λ c. let at-pre = c .before .before .before .before .before .before in omega
+    (arith, at-pre .pre .1 .1 .1, shift-small (at-pre .pre .1 .0) (c .match .keys4)))
+    (λ c κs. let at-match = c .before in let k = at-match .match .keys4 in let at-if1 = at-match .before .before .before .before .before in
+    let at-pre = at-if1 .before in let v = at-pre .pre .1 .0 in take-shift _ _ (at-pre .pre .0) (at-if1 .if1 .left) (at-pre .pre .1 .1)
+    (reads-lower v _ (shift-lower v k)) (shift-small v k))
+    (λ c κs. let at-pre = c .before .before .before .before .before .before .before in (at-pre .pre .1 .1 .2, at-pre .pre .1 .1 .3))
     (λ c. omega (arith, c .before .before .before .before .before .before .before .before .if1 .left))
-    (λ c κs. take-next _ _ (c .before .before .before .before .before .before .before .before .before .before .pre .0) (c .before .before .before .before .before .before .before .before .before .if1 .left) (c .before .before .before .before .before .before .before .before .before .before .pre .1 .1) (first-reads (c .before .before .before .before .before .before .before .before .before .before .pre .1 .0) (or-lower (c .before .before .before .before .before .before .before .before .before .before .pre .1 .0) (c .before .before .before .before .match .keys5))) (c .before .before .leaf2 .ensures .inside (omega (arith, c .before .if2 .taken))))
-    (λ c. one-stays _ _ _ (c .before .before .before .before .before .before .before .before .before .before .before .if1 .left) (or-tree (c .before .before .before .before .before .before .before .before .before .before .before .before .pre .1 .0) (c .before .before .before .before .before .before .match .keys5)) (c .before .before .before .before .leaf2 .ensures) (omega (arith, c .before .before .before .if2 .taken)) (or-zero (c .before .before .before .before .before .before .before .before .before .before .before .before .pre .1 .0) (c .before .before .before .if2 .taken)) (λ m. turn-least (c .before .before .before .before .before .before .before .before .before .before .before .before .pre .1 .0) 0 _ m (omega arith)) (omega arith) (c .before .take2 .ensures) (c .if3 .taken))
-    (λ c κs. (omega arith, parts-in (c .before .before .before .before .before .before .before .before .before .before .before .before .pre .1 .0) (or-lower (c .before .before .before .before .before .before .before .before .before .before .before .before .pre .1 .0) (c .before .before .before .before .before .before .match .keys5)) .1))
+    (λ c κs. let at-if2 = c .before in let at-leaf2 = at-if2 .before in let at-match = at-leaf2 .before .before in
+    let at-if1 = at-match .before .before .before .before .before in let at-pre = at-if1 .before in let v = at-pre .pre .1 .0 in take-next _ _
+    (at-pre .pre .0) (at-if1 .if1 .left) (at-pre .pre .1 .1) (first-reads v (or-lower v (at-match .match .keys5)))
+    (at-leaf2 .leaf2 .ensures .inside (omega (arith, at-if2 .if2 .taken))))
+    (λ c. let at-take2 = c .before in let at-if2 = at-take2 .before .before in let at-leaf2 = at-if2 .before in
+    let at-match = at-leaf2 .before .before in let at-if1 = at-match .before .before .before .before .before in let at-pre = at-if1 .before in
+    let v = at-pre .pre .1 .0 in one-stays _ _ _ (at-if1 .if1 .left) (or-tree v (at-match .match .keys5)) (at-leaf2 .leaf2 .ensures)
+    (omega (arith, at-if2 .if2 .taken)) (or-zero v (at-if2 .if2 .taken)) (λ m. turn-least v 0 _ m (omega arith)) (omega arith)
+    (at-take2 .take2 .ensures) (c .if3 .taken))
+    (λ c κs. let at-match = c .before .before .before .before .before .before in
+    let at-pre = at-match .before .before .before .before .before .before in let v = at-pre .pre .1 .0 in
+    (omega arith, parts-in v (or-lower v (at-match .match .keys5)) .1))
     (λ c κs. search needs)
-    (λ c. one-number _ _ _ (c .before .before .before .before .before .before .before .before .before .before .before .before .before .if1 .left) (or-tree (c .before .before .before .before .before .before .before .before .before .before .before .before .before .before .pre .1 .0) (c .before .before .before .before .before .before .before .before .match .keys5)) (c .before .before .before .before .before .before .leaf2 .ensures) (omega (arith, c .before .before .before .before .before .if2 .taken)) (or-zero (c .before .before .before .before .before .before .before .before .before .before .before .before .before .before .pre .1 .0) (c .before .before .before .before .before .if2 .taken)) (λ m. turn-least (c .before .before .before .before .before .before .before .before .before .before .before .before .before .before .pre .1 .0) 0 _ m (omega arith)) (omega arith) (c .before .before .before .take2 .ensures) (omega arith) (c .before .before .if3 .left) (c .word .ensures ∙ ap wordOf (c .before .or-join .ensures)))
+    (λ c. let at-or-join = c .before in let at-if3 = at-or-join .before in let at-take2 = at-if3 .before in
+    let at-if2 = at-take2 .before .before in let at-leaf2 = at-if2 .before in let at-match = at-leaf2 .before .before in
+    let at-if1 = at-match .before .before .before .before .before in let at-pre = at-if1 .before in let v = at-pre .pre .1 .0 in one-number _
+    _ _ (at-if1 .if1 .left) (or-tree v (at-match .match .keys5)) (at-leaf2 .leaf2 .ensures) (omega (arith, at-if2 .if2 .taken))
+    (or-zero v (at-if2 .if2 .taken)) (λ m. turn-least v 0 _ m (omega arith)) (omega arith) (at-take2 .take2 .ensures) (omega arith)
+    (at-if3 .if3 .left) (c .word .ensures ∙ ap wordOf (at-or-join .or-join .ensures)))
     (λ c. omega (arith, c .before .before .before .before .before .before .before .before .before .if1 .left))
-    (λ c κs. take-next _ _ (c .before .before .before .before .before .before .before .before .before .before .before .pre .0) (c .before .before .before .before .before .before .before .before .before .before .if1 .left) (c .before .before .before .before .before .before .before .before .before .before .before .pre .1 .1) (second-reads (c .before .before .before .before .before .before .before .before .before .before .before .pre .1 .0) (or-lower (c .before .before .before .before .before .before .before .before .before .before .before .pre .1 .0) (c .before .before .before .before .before .match .keys5))) (c .before .before .before .leaf2 .ensures .inside (omega (arith, c .before .if4 .taken))))
-    (λ c. one-stays _ _ _ (c .before .before .before .before .before .before .before .before .before .before .before .before .if1 .left) (or-tree (c .before .before .before .before .before .before .before .before .before .before .before .before .before .pre .1 .0) (c .before .before .before .before .before .before .before .match .keys5)) (c .before .before .before .before .before .leaf2 .ensures) (omega (arith, c .before .before .before .if4 .taken)) (or-one (c .before .before .before .before .before .before .before .before .before .before .before .before .before .pre .1 .0) (c .before .before .before .if4 .taken)) (λ m. turn-least (c .before .before .before .before .before .before .before .before .before .before .before .before .before .pre .1 .0) 1 _ m (omega arith)) (omega arith) (c .before .take3 .ensures) (c .if5 .taken))
-    (λ c κs. (omega arith, parts-in (c .before .before .before .before .before .before .before .before .before .before .before .before .before .pre .1 .0) (or-lower (c .before .before .before .before .before .before .before .before .before .before .before .before .before .pre .1 .0) (c .before .before .before .before .before .before .before .match .keys5)) .0))
+    (λ c κs. let at-if4 = c .before in let at-leaf2 = at-if4 .before .before in let at-match = at-leaf2 .before .before in
+    let at-if1 = at-match .before .before .before .before .before in let at-pre = at-if1 .before in let v = at-pre .pre .1 .0 in take-next _ _
+    (at-pre .pre .0) (at-if1 .if1 .left) (at-pre .pre .1 .1) (second-reads v (or-lower v (at-match .match .keys5)))
+    (at-leaf2 .leaf2 .ensures .inside (omega (arith, at-if4 .if4 .taken))))
+    (λ c. let at-take3 = c .before in let at-if4 = at-take3 .before .before in let at-leaf2 = at-if4 .before .before in
+    let at-match = at-leaf2 .before .before in let at-if1 = at-match .before .before .before .before .before in let at-pre = at-if1 .before in
+    let v = at-pre .pre .1 .0 in one-stays _ _ _ (at-if1 .if1 .left) (or-tree v (at-match .match .keys5)) (at-leaf2 .leaf2 .ensures)
+    (omega (arith, at-if4 .if4 .taken)) (or-one v (at-if4 .if4 .taken)) (λ m. turn-least v 1 _ m (omega arith)) (omega arith)
+    (at-take3 .take3 .ensures) (c .if5 .taken))
+    (λ c κs. let at-match = c .before .before .before .before .before .before .before in
+    let at-pre = at-match .before .before .before .before .before .before in let v = at-pre .pre .1 .0 in
+    (omega arith, parts-in v (or-lower v (at-match .match .keys5)) .0))
     (λ c κs. search needs)
-    (λ c. one-number _ _ _ (c .before .before .before .before .before .before .before .before .before .before .before .before .before .before .if1 .left) (or-tree (c .before .before .before .before .before .before .before .before .before .before .before .before .before .before .before .pre .1 .0) (c .before .before .before .before .before .before .before .before .before .match .keys5)) (c .before .before .before .before .before .before .before .leaf2 .ensures) (omega (arith, c .before .before .before .before .before .if4 .taken)) (or-one (c .before .before .before .before .before .before .before .before .before .before .before .before .before .before .before .pre .1 .0) (c .before .before .before .before .before .if4 .taken)) (λ m. turn-least (c .before .before .before .before .before .before .before .before .before .before .before .before .before .before .before .pre .1 .0) 1 _ m (omega arith)) (omega arith) (c .before .before .before .take3 .ensures) (omega arith) (c .before .before .if5 .left) (c .word2 .ensures ∙ ap wordOf (c .before .or-join2 .ensures)))
-    (λ c. tag-stops _ _ _ (c .before .before .before .before .before .before .before .before .before .before .if1 .left) (or-tree (c .before .before .before .before .before .before .before .before .before .before .before .pre .1 .0) (c .before .before .before .before .before .match .keys5)) (c .before .before .before .leaf2 .ensures) (c .if6 .taken))
+    (λ c. let at-or-join2 = c .before in let at-if5 = at-or-join2 .before in let at-take3 = at-if5 .before in
+    let at-if4 = at-take3 .before .before in let at-leaf2 = at-if4 .before .before in let at-match = at-leaf2 .before .before in
+    let at-if1 = at-match .before .before .before .before .before in let at-pre = at-if1 .before in let v = at-pre .pre .1 .0 in one-number _
+    _ _ (at-if1 .if1 .left) (or-tree v (at-match .match .keys5)) (at-leaf2 .leaf2 .ensures) (omega (arith, at-if4 .if4 .taken))
+    (or-one v (at-if4 .if4 .taken)) (λ m. turn-least v 1 _ m (omega arith)) (omega arith) (at-take3 .take3 .ensures) (omega arith)
+    (at-if5 .if5 .left) (c .word2 .ensures ∙ ap wordOf (at-or-join2 .or-join2 .ensures)))
+    (λ c. let at-leaf2 = c .before .before .before in let at-match = at-leaf2 .before .before in
+    let at-if1 = at-match .before .before .before .before .before in let at-pre = at-if1 .before in tag-stops _ _ _ (at-if1 .if1 .left)
+    (or-tree (at-pre .pre .1 .0) (at-match .match .keys5)) (at-leaf2 .leaf2 .ensures) (c .if6 .taken))
     (λ c. omega (arith, c .before .before .before .before .before .if1 .left))
-    (λ c κs. take-first _ _ (c .before .before .before .before .before .before .before .pre .0) (c .before .before .before .before .before .before .if1 .left) (c .before .before .before .before .before .before .before .pre .1 .1) (first-reads (c .before .before .before .before .before .before .before .pre .1 .0) (cons-lower (c .before .before .before .before .before .before .before .pre .1 .0) (c .before .match .keys6))))
-    (λ c. two-stops _ _ _ (c .before .before .before .before .before .before .before .before .if1 .left) (cons-tree (c .before .before .before .before .before .before .before .before .before .pre .1 .0) (c .before .before .before .match .keys6)) (c .before .take4 .ensures) (c .if7 .taken))
+    (λ c κs. let at-match = c .before in let at-if1 = at-match .before .before .before .before .before in let at-pre = at-if1 .before in
+    let v = at-pre .pre .1 .0 in take-first _ _ (at-pre .pre .0) (at-if1 .if1 .left) (at-pre .pre .1 .1)
+    (first-reads v (cons-lower v (at-match .match .keys6))))
+    (λ c. let at-take4 = c .before in let at-match = at-take4 .before .before in
+    let at-if1 = at-match .before .before .before .before .before in let at-pre = at-if1 .before in two-stops _ _ _ (at-if1 .if1 .left)
+    (cons-tree (at-pre .pre .1 .0) (at-match .match .keys6)) (at-take4 .take4 .ensures) (c .if7 .taken))
     (λ c. omega (arith, c .before .before .before .before .before .before .before .before .if1 .left))
-    (λ c κs. take-next _ _ (c .before .before .before .before .before .before .before .before .before .before .pre .0) (c .before .before .before .before .before .before .before .before .before .if1 .left) (c .before .before .before .before .before .before .before .before .before .before .pre .1 .1) (second-reads (c .before .before .before .before .before .before .before .before .before .before .pre .1 .0) (cons-lower (c .before .before .before .before .before .before .before .before .before .before .pre .1 .0) (c .before .before .before .before .match .keys6))) (c .before .before .take4 .ensures .inside (c .before .if7 .left)))
-    (λ c. two-stays _ _ _ (c .before .before .before .before .before .before .before .before .before .before .before .if1 .left) (cons-tree (c .before .before .before .before .before .before .before .before .before .before .before .before .pre .1 .0) (c .before .before .before .before .before .before .match .keys6)) (c .before .before .before .before .take4 .ensures) (c .before .before .before .if7 .left) (λ m s. refl) (λ m s n. cons-least (c .before .before .before .before .before .before .before .before .before .before .before .before .pre .1 .0) (c .before .before .before .before .before .before .match .keys6) m n) (omega arith) (c .before .take5 .ensures) (c .if8 .taken))
-    (λ c. two-big _ _ _ (c .before .before .before .before .before .before .before .before .before .before .before .before .if1 .left) (cons-tree (c .before .before .before .before .before .before .before .before .before .before .before .before .before .pre .1 .0) (c .before .before .before .before .before .before .before .match .keys6)) (c .before .before .before .before .before .take4 .ensures) (c .before .before .before .before .if7 .left) (λ m s. refl) (λ m s n. cons-least (c .before .before .before .before .before .before .before .before .before .before .before .before .before .pre .1 .0) (c .before .before .before .before .before .before .before .match .keys6) m n) (omega arith) (c .before .before .take5 .ensures) (c .before .if8 .left) (c .if9 .taken))
-    (λ c κs. parts-in (c .before .before .before .before .before .before .before .before .before .before .before .before .before .pre .1 .0) (cons-lower (c .before .before .before .before .before .before .before .before .before .before .before .before .before .pre .1 .0) (c .before .before .before .before .before .before .before .match .keys6)))
+    (λ c κs. let at-if7 = c .before in let at-take4 = at-if7 .before in let at-match = at-take4 .before .before in
+    let at-if1 = at-match .before .before .before .before .before in let at-pre = at-if1 .before in let v = at-pre .pre .1 .0 in take-next _ _
+    (at-pre .pre .0) (at-if1 .if1 .left) (at-pre .pre .1 .1) (second-reads v (cons-lower v (at-match .match .keys6)))
+    (at-take4 .take4 .ensures .inside (at-if7 .if7 .left)))
+    (λ c. let at-take5 = c .before in let at-if7 = at-take5 .before .before in let at-take4 = at-if7 .before in
+    let at-match = at-take4 .before .before in let k = at-match .match .keys6 in
+    let at-if1 = at-match .before .before .before .before .before in let at-pre = at-if1 .before in let v = at-pre .pre .1 .0 in two-stays _ _
+    _ (at-if1 .if1 .left) (cons-tree v k) (at-take4 .take4 .ensures) (at-if7 .if7 .left) (λ m s. refl) (λ m s n. cons-least v k m n)
+    (omega arith) (at-take5 .take5 .ensures) (c .if8 .taken))
+    (λ c. let at-if8 = c .before in let at-take5 = at-if8 .before in let at-if7 = at-take5 .before .before in let at-take4 = at-if7 .before in
+    let at-match = at-take4 .before .before in let k = at-match .match .keys6 in
+    let at-if1 = at-match .before .before .before .before .before in let at-pre = at-if1 .before in let v = at-pre .pre .1 .0 in two-big _ _ _
+    (at-if1 .if1 .left) (cons-tree v k) (at-take4 .take4 .ensures) (at-if7 .if7 .left) (λ m s. refl) (λ m s n. cons-least v k m n)
+    (omega arith) (at-take5 .take5 .ensures) (at-if8 .if8 .left) (c .if9 .taken))
+    (λ c κs. let at-match = c .before .before .before .before .before .before .before in
+    let at-pre = at-match .before .before .before .before .before .before in let v = at-pre .pre .1 .0 in parts-in v
+    (cons-lower v (at-match .match .keys6)))
     (λ c κs. search needs)
     (λ c. omega (arith, c .before .before .before .before .before .if1 .left))
-    (λ c κs. take-first _ _ (c .before .before .before .before .before .before .before .pre .0) (c .before .before .before .before .before .before .if1 .left) (c .before .before .before .before .before .before .before .pre .1 .1) (reads-lower (c .before .before .before .before .before .before .before .pre .1 .0) _ (dep-lower (c .before .before .before .before .before .before .before .pre .1 .0) (c .before .match .keys7))))
-    (λ c. dep-stops (c .before .before .before .before .before .before .before .before .before .pre .1 .0) (c .before .before .before .match .keys7) _ (c .before .before .before .before .before .before .before .before .if1 .left) (c .before .take6 .ensures) (omega arith) (c .if10 .taken))
-    (λ c. let d = dep-first (c .before .before .before .before .before .before .before .before .before .before .pre .1 .0) (c .before .before .before .before .match .keys7) _ _ (c .before .before .take6 .ensures) (omega arith) (omega (arith, c .before .if10 .left)) in let q = second-place (c .before .before .before .before .before .before .before .before .before .before .pre .1 .0) (c .before .before .before .before .match .keys7) _ (d .1) in omega (arith, q .0, q .1))
-    (λ c. let d = dep-first (c .before .before .before .before .before .before .before .before .before .before .pre .1 .0) (c .before .before .before .before .match .keys7) _ _ (c .before .before .take6 .ensures) (omega arith) (omega (arith, c .before .if10 .left)) in let q = second-place (c .before .before .before .before .before .before .before .before .before .before .pre .1 .0) (c .before .before .before .before .match .keys7) _ (d .1) in omega (arith, q .0, q .1))
-    (λ c. let d = dep-first (c .before .before .before .before .before .before .before .before .before .before .before .pre .1 .0) (c .before .before .before .before .before .match .keys7) _ _ (c .before .before .before .take6 .ensures) (omega arith) (omega (arith, c .before .before .if10 .left)) in let q = second-place (c .before .before .before .before .before .before .before .before .before .before .before .pre .1 .0) (c .before .before .before .before .before .match .keys7) _ (d .1) in omega (arith, q .0, q .1))
+    (λ c κs. let at-match = c .before in let at-if1 = at-match .before .before .before .before .before in let at-pre = at-if1 .before in
+    let v = at-pre .pre .1 .0 in take-first _ _ (at-pre .pre .0) (at-if1 .if1 .left) (at-pre .pre .1 .1)
+    (reads-lower v _ (dep-lower v (at-match .match .keys7))))
+    (λ c. let at-take6 = c .before in let at-match = at-take6 .before .before in
+    let at-if1 = at-match .before .before .before .before .before in let at-pre = at-if1 .before in dep-stops (at-pre .pre .1 .0)
+    (at-match .match .keys7) _ (at-if1 .if1 .left) (at-take6 .take6 .ensures) (omega arith) (c .if10 .taken))
+    (λ c. let at-if10 = c .before in let at-take6 = at-if10 .before in let at-match = at-take6 .before .before in
+    let k = at-match .match .keys7 in let at-pre = at-match .before .before .before .before .before .before in let v = at-pre .pre .1 .0 in
+    let d = dep-first v k _ _ (at-take6 .take6 .ensures) (omega arith) (omega (arith, at-if10 .if10 .left)) in
+    let q = second-place v k _ (d .1) in omega (arith, q .0, q .1))
+    (λ c. let at-if10 = c .before in let at-take6 = at-if10 .before in let at-match = at-take6 .before .before in
+    let k = at-match .match .keys7 in let at-pre = at-match .before .before .before .before .before .before in let v = at-pre .pre .1 .0 in
+    let d = dep-first v k _ _ (at-take6 .take6 .ensures) (omega arith) (omega (arith, at-if10 .if10 .left)) in
+    let q = second-place v k _ (d .1) in omega (arith, q .0, q .1))
+    (λ c. let at-if10 = c .before .before in let at-take6 = at-if10 .before in let at-match = at-take6 .before .before in
+    let k = at-match .match .keys7 in let at-pre = at-match .before .before .before .before .before .before in let v = at-pre .pre .1 .0 in
+    let d = dep-first v k _ _ (at-take6 .take6 .ensures) (omega arith) (omega (arith, at-if10 .if10 .left)) in
+    let q = second-place v k _ (d .1) in omega (arith, q .0, q .1))
     (λ c. omega (arith, c .before .before .before .before .before .before .before .before .before .before .if1 .left))
-    (λ c κs. let d = dep-first (c .before .before .before .before .before .before .before .before .before .before .before .before .pre .1 .0) (c .before .before .before .before .before .before .match .keys7) _ _ (c .before .before .before .before .take6 .ensures) (omega arith) (omega (arith, c .before .before .before .if10 .left)) in take-next _ _ (c .before .before .before .before .before .before .before .before .before .before .before .before .pre .0) (c .before .before .before .before .before .before .before .before .before .before .before .if1 .left) (c .before .before .before .before .before .before .before .before .before .before .before .before .pre .1 .1) (chosen-reads (c .before .before .before .before .before .before .before .before .before .before .before .before .pre .1 .0) (c .before .before .before .before .before .before .match .keys7) _ (d .1)) (c .before .before .before .before .take6 .ensures .inside (omega (arith, c .before .before .before .if10 .left))))
-    (λ c. let d = dep-first (c .before .before .before .before .before .before .before .before .before .before .before .before .before .before .pre .1 .0) (c .before .before .before .before .before .before .before .before .match .keys7) _ _ (c .before .before .before .before .before .before .take6 .ensures) (omega arith) (omega (arith, c .before .before .before .before .before .if10 .left)) in two-stays _ _ _ (c .before .before .before .before .before .before .before .before .before .before .before .before .before .if1 .left) (dep-tree (c .before .before .before .before .before .before .before .before .before .before .before .before .before .before .pre .1 .0) (c .before .before .before .before .before .before .before .before .match .keys7)) (c .before .before .before .before .before .before .take6 .ensures) (omega (arith, c .before .before .before .before .before .if10 .left)) (dep-node (c .before .before .before .before .before .before .before .before .before .before .before .before .before .before .pre .1 .0) (c .before .before .before .before .before .before .before .before .match .keys7) (d .0) (d .1)) (dep-most (c .before .before .before .before .before .before .before .before .before .before .before .before .before .before .pre .1 .0) (c .before .before .before .before .before .before .before .before .match .keys7) (d .0) (d .1)) (omega arith) (c .before .take7 .ensures) (c .if11 .taken))
-    (λ c κs. let d = dep-first (c .before .before .before .before .before .before .before .before .before .before .before .before .before .before .pre .1 .0) (c .before .before .before .before .before .before .before .before .match .keys7) _ _ (c .before .before .before .before .before .before .take6 .ensures) (omega arith) (omega (arith, c .before .before .before .before .before .if10 .left)) in (dep-in (c .before .before .before .before .before .before .before .before .before .before .before .before .before .before .pre .1 .0) (c .before .before .before .before .before .before .before .before .match .keys7), d .1))
+    (λ c κs. let at-if10 = c .before .before .before in let at-take6 = at-if10 .before in let at-match = at-take6 .before .before in
+    let k = at-match .match .keys7 in let at-if1 = at-match .before .before .before .before .before in let at-pre = at-if1 .before in
+    let v = at-pre .pre .1 .0 in let d = dep-first v k _ _ (at-take6 .take6 .ensures) (omega arith) (omega (arith, at-if10 .if10 .left)) in
+    take-next _ _ (at-pre .pre .0) (at-if1 .if1 .left) (at-pre .pre .1 .1) (chosen-reads v k _ (d .1))
+    (at-take6 .take6 .ensures .inside (omega (arith, at-if10 .if10 .left))))
+    (λ c. let at-take7 = c .before in let at-if10 = at-take7 .before .before .before .before in let at-take6 = at-if10 .before in
+    let at-match = at-take6 .before .before in let k = at-match .match .keys7 in
+    let at-if1 = at-match .before .before .before .before .before in let at-pre = at-if1 .before in let v = at-pre .pre .1 .0 in
+    let d = dep-first v k _ _ (at-take6 .take6 .ensures) (omega arith) (omega (arith, at-if10 .if10 .left)) in two-stays _ _ _
+    (at-if1 .if1 .left) (dep-tree v k) (at-take6 .take6 .ensures) (omega (arith, at-if10 .if10 .left)) (dep-node v k (d .0) (d .1))
+    (dep-most v k (d .0) (d .1)) (omega arith) (at-take7 .take7 .ensures) (c .if11 .taken))
+    (λ c κs. let at-if10 = c .before .before .before .before .before in let at-take6 = at-if10 .before in
+    let at-match = at-take6 .before .before in let k = at-match .match .keys7 in
+    let at-pre = at-match .before .before .before .before .before .before in let v = at-pre .pre .1 .0 in
+    let d = dep-first v k _ _ (at-take6 .take6 .ensures) (omega arith) (omega (arith, at-if10 .if10 .left)) in (dep-in v k, d .1))
     (λ c κs. search needs)
     (λ c. omega (arith, c .before .before .before .before .before .if1 .left))
-    (λ c κs. take-first _ _ (c .before .before .before .before .before .before .before .pre .0) (c .before .before .before .before .before .before .if1 .left) (c .before .before .before .before .before .before .before .pre .1 .1) (reads-lower (c .before .before .before .before .before .before .before .pre .1 .0) _ (except-lower (c .before .before .before .before .before .before .before .pre .1 .0) (c .before .match .keys8))))
-    (λ c. except-stays _ _ _ (c .before .before .before .before .before .before .before .before .if1 .left) (except-tree (c .before .before .before .before .before .before .before .before .before .pre .1 .0) (c .before .before .before .match .keys8)) (c .before .take8 .ensures) (omega arith) (except-small (c .before .before .before .before .before .before .before .before .before .pre .1 .0) (c .before .before .before .match .keys8)) (omega arith) (c .if12 .taken))
-    (λ c. except-unfit _ _ _ (c .before .before .before .before .before .before .before .before .before .if1 .left) (except-tree (c .before .before .before .before .before .before .before .before .before .before .pre .1 .0) (c .before .before .before .before .match .keys8)) (c .before .before .take8 .ensures) (c .before .if12 .left) (c .if13 .taken))
+    (λ c κs. let at-match = c .before in let at-if1 = at-match .before .before .before .before .before in let at-pre = at-if1 .before in
+    let v = at-pre .pre .1 .0 in take-first _ _ (at-pre .pre .0) (at-if1 .if1 .left) (at-pre .pre .1 .1)
+    (reads-lower v _ (except-lower v (at-match .match .keys8))))
+    (λ c. let at-take8 = c .before in let at-match = at-take8 .before .before in let k = at-match .match .keys8 in
+    let at-if1 = at-match .before .before .before .before .before in let at-pre = at-if1 .before in let v = at-pre .pre .1 .0 in except-stays
+    _ _ _ (at-if1 .if1 .left) (except-tree v k) (at-take8 .take8 .ensures) (omega arith) (except-small v k) (omega arith) (c .if12 .taken))
+    (λ c. let at-if12 = c .before in let at-take8 = at-if12 .before in let at-match = at-take8 .before .before in
+    let at-if1 = at-match .before .before .before .before .before in let at-pre = at-if1 .before in except-unfit _ _ _ (at-if1 .if1 .left)
+    (except-tree (at-pre .pre .1 .0) (at-match .match .keys8)) (at-take8 .take8 .ensures) (at-if12 .if12 .left) (c .if13 .taken))
     (λ c κs. c .if13 .left)
     (λ c κs. search needs)
     (λ c. omega (arith, c .before .before .before .before .before .if1 .left))
-    (λ c κs. take-first _ _ (c .before .before .before .before .before .before .before .pre .0) (c .before .before .before .before .before .before .if1 .left) (c .before .before .before .before .before .before .before .pre .1 .1) (fix-reads (c .before .before .before .before .before .before .before .pre .1 .0) (c .before .match .keys9)))
+    (λ c κs. let at-match = c .before in let at-if1 = at-match .before .before .before .before .before in let at-pre = at-if1 .before in
+    take-first _ _ (at-pre .pre .0) (at-if1 .if1 .left) (at-pre .pre .1 .1) (fix-reads (at-pre .pre .1 .0) (at-match .match .keys9)))
     (λ c. omega (arith, c .before .before .before .before .before .if1 .left))
-    (λ c κs. take-first _ _ (c .before .before .before .before .before .before .before .pre .0) (c .before .before .before .before .before .before .if1 .left) (c .before .before .before .before .before .before .before .pre .1 .1) (again-reads (c .before .before .before .before .before .before .before .pre .1 .0) (c .before .match .keys10)))
-    (λ c. tree-taken _ _ _ (c .before .before .before .before .before .before .before .if1 .left) (tree-of (below-rule _ _ _ (c .before .before .match .keys1))) (omega arith) (c .counted .ensures _))
-    (λ c. tree-taken _ _ _ (c .before .before .before .before .before .before .before .if1 .left) (tree-of (nats-rule _ _ _ (c .before .before .match .keys2))) (omega arith) (nats-leaf _ _ (c .leaf .ensures)))
-    (λ c. tree-taken _ _ _ (c .before .before .before .before .before .before .before .if1 .left) (tree-of (pool-rule _ _ _ (c .before .before .match .keys3))) (omega arith) (c .listed .ensures _))
-    (λ c. pass-taken _ _ _ (c .before .before .before .before .before .before .before .if1 .left) (shift-tree (c .before .before .before .before .before .before .before .before .pre .1 .0) (c .before .before .match .keys4)) refl (omega arith) (c .take .ensures))
-    (λ c. tag-fails _ _ _ (c .before .before .before .before .before .before .before .before .before .before .if1 .left) (or-tree (c .before .before .before .before .before .before .before .before .before .before .before .pre .1 .0) (c .before .before .before .before .before .match .keys5)) (c .before .before .before .leaf2 .ensures) (c .if6 .left) (or-none (c .before .before .before .before .before .before .before .before .before .before .before .pre .1 .0) (c .before .before .if2 .left) (c .before .if4 .left)))
-    (λ c. two-number _ _ _ (c .before .before .before .before .before .before .before .before .before .before .before .before .before .before .if1 .left) (cons-tree (c .before .before .before .before .before .before .before .before .before .before .before .before .before .before .before .pre .1 .0) (c .before .before .before .before .before .before .before .before .before .match .keys6)) (c .before .before .before .before .before .before .before .take4 .ensures) (c .before .before .before .before .before .before .if7 .left) (λ m s. refl) (λ m s n. cons-least (c .before .before .before .before .before .before .before .before .before .before .before .before .before .before .before .pre .1 .0) (c .before .before .before .before .before .before .before .before .before .match .keys6) m n) (omega arith) (c .before .before .before .before .take5 .ensures) (omega arith) (c .before .before .before .if8 .left) (c .before .before .if9 .left) (c .word3 .ensures ∙ ap wordOf (c .before .cons-join .ensures)))
-    (λ c. let d = dep-first (c .before .before .before .before .before .before .before .before .before .before .before .before .before .before .before .before .pre .1 .0) (c .before .before .before .before .before .before .before .before .before .before .match .keys7) _ _ (c .before .before .before .before .before .before .before .before .take6 .ensures) (omega arith) (omega (arith, c .before .before .before .before .before .before .before .if10 .left)) in two-number _ _ _ (c .before .before .before .before .before .before .before .before .before .before .before .before .before .before .before .if1 .left) (dep-tree (c .before .before .before .before .before .before .before .before .before .before .before .before .before .before .before .before .pre .1 .0) (c .before .before .before .before .before .before .before .before .before .before .match .keys7)) (c .before .before .before .before .before .before .before .before .take6 .ensures) (omega (arith, c .before .before .before .before .before .before .before .if10 .left)) (dep-node (c .before .before .before .before .before .before .before .before .before .before .before .before .before .before .before .before .pre .1 .0) (c .before .before .before .before .before .before .before .before .before .before .match .keys7) (d .0) (d .1)) (dep-most (c .before .before .before .before .before .before .before .before .before .before .before .before .before .before .before .before .pre .1 .0) (c .before .before .before .before .before .before .before .before .before .before .match .keys7) (d .0) (d .1)) (omega arith) (c .before .before .before .take7 .ensures) (omega arith) (c .before .before .if11 .left) (c .before .before .before .before .before .before .before .if10 .left) (c .word4 .ensures ∙ ap wordOf (c .before .join .ensures)))
-    (λ c. except-number _ _ _ (c .before .before .before .before .before .before .before .before .before .before .before .if1 .left) (except-tree (c .before .before .before .before .before .before .before .before .before .before .before .before .pre .1 .0) (c .before .before .before .before .before .before .match .keys8)) (c .before .before .before .before .take8 .ensures) (c .before .before .before .if12 .left) (c .before .before .if13 .left) (omega arith) (c .word5 .ensures ∙ ap wordOf (c .before .join2 .ensures)))
-    (λ c. pass-taken _ _ _ (c .before .before .before .before .before .before .before .if1 .left) (fix-tree (c .before .before .before .before .before .before .before .before .pre .1 .0) (c .before .before .match .keys9)) (sym (add-zero _)) (omega arith) (c .take9 .ensures))
-    (λ c. pass-taken _ _ _ (c .before .before .before .before .before .before .before .if1 .left) (again-tree (c .before .before .before .before .before .before .before .before .pre .1 .0) (c .before .before .match .keys10)) (sym (add-zero _)) (omega arith) (c .take10 .ensures))
+    (λ c κs. let at-match = c .before in let at-if1 = at-match .before .before .before .before .before in let at-pre = at-if1 .before in
+    take-first _ _ (at-pre .pre .0) (at-if1 .if1 .left) (at-pre .pre .1 .1) (again-reads (at-pre .pre .1 .0) (at-match .match .keys10)))
+    (λ c. let at-match = c .before .before in let at-if1 = at-match .before .before .before .before .before in tree-taken _ _ _
+    (at-if1 .if1 .left) (tree-of (below-rule _ _ _ (at-match .match .keys1))) (omega arith) (c .counted .ensures _))
+    (λ c. let at-match = c .before .before in let at-if1 = at-match .before .before .before .before .before in tree-taken _ _ _
+    (at-if1 .if1 .left) (tree-of (nats-rule _ _ _ (at-match .match .keys2))) (omega arith) (nats-leaf _ _ (c .leaf .ensures)))
+    (λ c. let at-match = c .before .before in let at-if1 = at-match .before .before .before .before .before in tree-taken _ _ _
+    (at-if1 .if1 .left) (tree-of (pool-rule _ _ _ (at-match .match .keys3))) (omega arith) (c .listed .ensures _))
+    (λ c. let at-match = c .before .before in let at-if1 = at-match .before .before .before .before .before in let at-pre = at-if1 .before in
+    pass-taken _ _ _ (at-if1 .if1 .left) (shift-tree (at-pre .pre .1 .0) (at-match .match .keys4)) refl (omega arith) (c .take .ensures))
+    (λ c. let at-if4 = c .before in let at-if2 = at-if4 .before in let at-leaf2 = at-if2 .before in let at-match = at-leaf2 .before .before in
+    let at-if1 = at-match .before .before .before .before .before in let at-pre = at-if1 .before in let v = at-pre .pre .1 .0 in tag-fails _ _
+    _ (at-if1 .if1 .left) (or-tree v (at-match .match .keys5)) (at-leaf2 .leaf2 .ensures) (c .if6 .left)
+    (or-none v (at-if2 .if2 .left) (at-if4 .if4 .left)))
+    (λ c. let at-cons-join = c .before in let at-if9 = at-cons-join .before in let at-if8 = at-if9 .before in let at-take5 = at-if8 .before in
+    let at-if7 = at-take5 .before .before in let at-take4 = at-if7 .before in let at-match = at-take4 .before .before in
+    let k = at-match .match .keys6 in let at-if1 = at-match .before .before .before .before .before in let at-pre = at-if1 .before in
+    let v = at-pre .pre .1 .0 in two-number _ _ _ (at-if1 .if1 .left) (cons-tree v k) (at-take4 .take4 .ensures) (at-if7 .if7 .left)
+    (λ m s. refl) (λ m s n. cons-least v k m n) (omega arith) (at-take5 .take5 .ensures) (omega arith) (at-if8 .if8 .left) (at-if9 .if9 .left)
+    (c .word3 .ensures ∙ ap wordOf (at-cons-join .cons-join .ensures)))
+    (λ c. let at-join = c .before in let at-if11 = at-join .before in let at-take7 = at-if11 .before in
+    let at-if10 = at-take7 .before .before .before .before in let at-take6 = at-if10 .before in let at-match = at-take6 .before .before in
+    let k = at-match .match .keys7 in let at-if1 = at-match .before .before .before .before .before in let at-pre = at-if1 .before in
+    let v = at-pre .pre .1 .0 in let d = dep-first v k _ _ (at-take6 .take6 .ensures) (omega arith) (omega (arith, at-if10 .if10 .left)) in
+    two-number _ _ _ (at-if1 .if1 .left) (dep-tree v k) (at-take6 .take6 .ensures) (omega (arith, at-if10 .if10 .left))
+    (dep-node v k (d .0) (d .1)) (dep-most v k (d .0) (d .1)) (omega arith) (at-take7 .take7 .ensures) (omega arith) (at-if11 .if11 .left)
+    (at-if10 .if10 .left) (c .word4 .ensures ∙ ap wordOf (at-join .join .ensures)))
+    (λ c. let at-join2 = c .before in let at-if13 = at-join2 .before in let at-if12 = at-if13 .before in let at-take8 = at-if12 .before in
+    let at-match = at-take8 .before .before in let at-if1 = at-match .before .before .before .before .before in let at-pre = at-if1 .before in
+    except-number _ _ _ (at-if1 .if1 .left) (except-tree (at-pre .pre .1 .0) (at-match .match .keys8)) (at-take8 .take8 .ensures)
+    (at-if12 .if12 .left) (at-if13 .if13 .left) (omega arith) (c .word5 .ensures ∙ ap wordOf (at-join2 .join2 .ensures)))
+    (λ c. let at-match = c .before .before in let at-if1 = at-match .before .before .before .before .before in let at-pre = at-if1 .before in
+    pass-taken _ _ _ (at-if1 .if1 .left) (fix-tree (at-pre .pre .1 .0) (at-match .match .keys9)) (sym (add-zero _)) (omega arith)
+    (c .take9 .ensures))
+    (λ c. let at-match = c .before .before in let at-if1 = at-match .before .before .before .before .before in let at-pre = at-if1 .before in
+    pass-taken _ _ _ (at-if1 .if1 .left) (again-tree (at-pre .pre .1 .0) (at-match .match .keys10)) (sym (add-zero _)) (omega arith)
+    (c .take10 .ensures))
     (λ c. absurd (known (c .before .before .before .before .before .before .pre .1 .0) (c .match .rest)))

@@ -19,4 +19,6 @@ leaf-spec =
     (λ c. search needs)
     (λ c κs. search needs)
     (λ c κs. search needs)
-    (λ c. cell-found _ _ _ _ (c .before .before .before .before .if1 .left) (c .before .before .if2 .left) (taken-number _ (omega arith) (omega (arith, c .before .before .before .before .if1 .left)) (c .word .ensures ∙ ap wordOf (c .before .cap .ensures)))))
+    (λ c. let at-cap = c .before in let at-if2 = at-cap .before in let at-if1 = at-if2 .before .before in cell-found _ _ _ _
+    (at-if1 .if1 .left) (at-if2 .if2 .left) (taken-number _ (omega arith) (omega (arith, at-if1 .if1 .left))
+    (c .word .ensures ∙ ap wordOf (at-cap .cap .ensures)))))

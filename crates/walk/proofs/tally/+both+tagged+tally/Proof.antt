@@ -12,7 +12,18 @@ use Rattle.walk.proofs.Visit.{walk-deep, walk-cell, walk-pass, walk-tag
 use Rattle.walk.proofs.Nodes.{in-plan, known, or-lower, cons-lower, parts-in, words-some}
 use Rattle.walk.proofs.Deps.{dep-in}
 use Rattle.walk.proofs.Items.{
-  below-items, nats-items, pool-items, shift-items, or-first, or-second, cons-items, dep-items, dep-place, except-items, fix-items, again-items,
+  below-items,
+  nats-items,
+  pool-items,
+  shift-items,
+  or-first,
+  or-second,
+  cons-items,
+  dep-items,
+  dep-place,
+  except-items,
+  fix-items,
+  again-items,
 }
 use Rattle.walk.proofs.Calls.{tally-by, tally-any, tally-up, tally-part, tally-tagged, tally-both}
 use Rattle.walk.proofs.tally.both.Reads as both
@@ -62,8 +73,22 @@ module _ (t : ℕ) where
 
   abbrev calls : tally-lts.Claims
   calls = (
-    one-reads.Asked, one-reads.Learnt, tally-below, tally.Post, or-split-reads.Asked, or-split-reads.Learnt, tagged-below, tagged.Post,
-    cons-split-reads.Asked, cons-split-reads.Learnt, both-below, both.Post, parts-reads.Asked, parts-reads.Learnt, split-reads.Asked, split-reads.Learnt,
+    one-reads.Asked,
+    one-reads.Learnt,
+    tally-below,
+    tally.Post,
+    or-split-reads.Asked,
+    or-split-reads.Learnt,
+    tagged-below,
+    tagged.Post,
+    cons-split-reads.Asked,
+    cons-split-reads.Learnt,
+    both-below,
+    both.Post,
+    parts-reads.Asked,
+    parts-reads.Learnt,
+    split-reads.Asked,
+    split-reads.Learnt,
   )
 
 pub +both+tagged+tally-spec : {M : Type 1} → statement M
@@ -71,7 +96,18 @@ pub +both+tagged+tally-spec : {M : Type 1} → statement M
     (λ t. both-lts.spec (tally-below t, tally.Post) (both-at t) both.Post
     (λ c κs. let p = c .pre in (omega (arith, p .0), (p .1 .0 .0, (p .1 .1 .0, p .1 .1 .2, p .1 .1 .3))))
     (λ c. two-stops _ _ _ _ (c .before .tally .ensures) (c .if1 .taken))
-    (λ c κs. let p = c .before .before .pre in (omega (arith, p .0), (p .1 .0 .1, (p .1 .1 .1, p .1 .1 .2, omega (arith, p .1 .1 .3, left-within _ (c .before .tally .ensures) (c .if1 .left))))))
+    (λ c κs. let at-tally = c .before in let at-pre = at-tally .before in let p = at-pre .pre in (
+      omega (arith, p .0),
+      (
+        p .1 .0 .1,
+        (
+          p .1 .1
+              .1,
+          p .1 .1 .2,
+          omega (arith, p .1 .1 .3, left-within _ (at-tally .tally .ensures) (c .if1 .left)),
+        ),
+      ),
+    ))
     (λ c. two-left _ _ _ _ (c .before .before .tally .ensures) (c .before .if1 .left) (c .tally2 .ensures)))
     (λ t. tagged-lts.spec (tally-below t, tally.Post) (tagged-at t) tagged.Post
     (λ c. tallied-full _ _ _ (c .if1 .taken))
@@ -95,39 +131,80 @@ pub +both+tagged+tally-spec : {M : Type 1} → statement M
     (λ c κs. c .before .before .before .before .before .before .pre .1 .1 .2)
     (λ c κs. c .before .before .before .before .before .before .pre .1 .1 .2)
     (λ c. omega (arith, c .before .before .before .before .before .if1 .left))
-    (λ c κs. tally-part (c .before .before .before .before .before .before .pre .0) (c .before .before .before .before .before .if1 .left) (c .before .before .before .before .before .before .pre .1 .1) (next-by (c .before .before .before .before .before .before .pre .1 .0) (shift-items (c .before .before .before .before .before .before .pre .1 .0) (c .match .keys4)) .0))
-    (λ c κs. parts-in (visited (c .before .before .before .before .before .before .pre .1 .0)) (or-lower (visited (c .before .before .before .before .before .before .pre .1 .0)) (c .match .keys5)))
+    (λ c κs. let at-if1 = c .before .before .before .before .before in let at-pre = at-if1 .before in let v = at-pre .pre .1 .0 in tally-part
+    (at-pre .pre .0) (at-if1 .if1 .left) (at-pre .pre .1 .1) (next-by v (shift-items v (c .match .keys4)) .0))
+    (λ c κs. let at-pre = c .before .before .before .before .before .before in let v = at-pre .pre .1 .0 in parts-in (visited v)
+    (or-lower (visited v) (c .match .keys5)))
     (λ c. search needs)
     (λ c. omega (arith, c .before .before .before .before .before .before .before .before .before .if1 .left))
-    (λ c κs. tally-tagged (c .before .before .before .before .before .before .before .before .before .before .pre .0) (c .before .before .before .before .before .before .before .before .before .if1 .left) (c .before .before .before .before .before .before .before .before .before .before .pre .1 .1) (next-by (c .before .before .before .before .before .before .before .before .before .before .pre .1 .0) (or-first (c .before .before .before .before .before .before .before .before .before .before .pre .1 .0) (c .before .before .before .before .match .keys5) (c .before .before .before .or-split .ensures) (c .before .m .given .1)) .0))
+    (λ c κs. let at-m = c .before in let at-or-split = at-m .before .before in let at-match = at-or-split .before in
+    let at-if1 = at-match .before .before .before .before .before in let at-pre = at-if1 .before in let v = at-pre .pre .1 .0 in tally-tagged
+    (at-pre .pre .0) (at-if1 .if1 .left) (at-pre .pre .1 .1)
+    (next-by v (or-first v (at-match .match .keys5) (at-or-split .or-split .ensures) (at-m .m .given .1)) .0))
     (λ c. search needs)
     (λ c. omega (arith, c .before .before .before .before .before .before .before .before .before .if1 .left))
-    (λ c κs. tally-tagged (c .before .before .before .before .before .before .before .before .before .before .pre .0) (c .before .before .before .before .before .before .before .before .before .if1 .left) (c .before .before .before .before .before .before .before .before .before .before .pre .1 .1) (next-by (c .before .before .before .before .before .before .before .before .before .before .pre .1 .0) (or-second (c .before .before .before .before .before .before .before .before .before .before .pre .1 .0) (c .before .before .before .before .match .keys5) (c .before .before .before .or-split .ensures) (c .before .m2 .given .1)) .0))
-    (λ c κs. let l = cons-lower (visited (c .before .before .before .before .before .before .pre .1 .0)) (c .match .keys6) in (parts-in (visited (c .before .before .before .before .before .before .pre .1 .0)) l, words-some (visited (c .before .before .before .before .before .before .pre .1 .0)) l))
+    (λ c κs. let at-m2 = c .before in let at-or-split = at-m2 .before .before in let at-match = at-or-split .before in
+    let at-if1 = at-match .before .before .before .before .before in let at-pre = at-if1 .before in let v = at-pre .pre .1 .0 in tally-tagged
+    (at-pre .pre .0) (at-if1 .if1 .left) (at-pre .pre .1 .1)
+    (next-by v (or-second v (at-match .match .keys5) (at-or-split .or-split .ensures) (at-m2 .m2 .given .1)) .0))
+    (λ c κs. let at-pre = c .before .before .before .before .before .before in let v = at-pre .pre .1 .0 in
+    let l = cons-lower (visited v) (c .match .keys6) in (parts-in (visited v) l, words-some (visited v) l))
     (λ c. omega (arith, c .before .before .before .before .before .before .if1 .left))
-    (λ c κs. let n = next-by (c .before .before .before .before .before .before .before .pre .1 .0) (cons-items (c .before .before .before .before .before .before .before .pre .1 .0) (c .before .match .keys6) (c .cons-split .ensures)) in tally-both (c .before .before .before .before .before .before .before .pre .0) (c .before .before .before .before .before .before .if1 .left) (c .before .before .before .before .before .before .before .pre .1 .1) (n .0) (n .1 .0))
+    (λ c κs. let at-match = c .before in let at-if1 = at-match .before .before .before .before .before in let at-pre = at-if1 .before in
+    let v = at-pre .pre .1 .0 in let n = next-by v (cons-items v (at-match .match .keys6) (c .cons-split .ensures)) in tally-both
+    (at-pre .pre .0) (at-if1 .if1 .left) (at-pre .pre .1 .1) (n .0) (n .1 .0))
     (λ c κs. dep-in (visited (c .before .before .before .before .before .before .before .pre .1 .0)) (c .before .match .keys7))
-    (λ c. let q = dep-place (c .before .before .before .before .before .before .before .before .pre .1 .0) (c .before .before .match .keys7) (c .parts .ensures) in omega (arith, q .0, q .1))
-    (λ c. let q = dep-place (c .before .before .before .before .before .before .before .before .pre .1 .0) (c .before .before .match .keys7) (c .parts .ensures) in omega (arith, q .0, q .1))
-    (λ c. let q = dep-place (c .before .before .before .before .before .before .before .before .before .pre .1 .0) (c .before .before .before .match .keys7) (c .before .parts .ensures) in omega (arith, q .0, q .1))
+    (λ c. let at-match = c .before .before in let at-pre = at-match .before .before .before .before .before .before in
+    let q = dep-place (at-pre .pre .1 .0) (at-match .match .keys7) (c .parts .ensures) in omega (arith, q .0, q .1))
+    (λ c. let at-match = c .before .before in let at-pre = at-match .before .before .before .before .before .before in
+    let q = dep-place (at-pre .pre .1 .0) (at-match .match .keys7) (c .parts .ensures) in omega (arith, q .0, q .1))
+    (λ c. let at-parts = c .before in let at-match = at-parts .before .before in
+    let at-pre = at-match .before .before .before .before .before .before in
+    let q = dep-place (at-pre .pre .1 .0) (at-match .match .keys7) (at-parts .parts .ensures) in omega (arith, q .0, q .1))
     (λ c. omega (arith, c .before .before .before .before .before .before .before .before .if1 .left))
-    (λ c κs. let n = next-by (c .before .before .before .before .before .before .before .before .before .pre .1 .0) (dep-items (c .before .before .before .before .before .before .before .before .before .pre .1 .0) (c .before .before .before .match .keys7) (c .before .parts .ensures)) in tally-both (c .before .before .before .before .before .before .before .before .before .pre .0) (c .before .before .before .before .before .before .before .before .if1 .left) (c .before .before .before .before .before .before .before .before .before .pre .1 .1) (n .0) (n .1 .0))
+    (λ c κs. let at-parts = c .before in let at-match = at-parts .before .before in
+    let at-if1 = at-match .before .before .before .before .before in let at-pre = at-if1 .before in let v = at-pre .pre .1 .0 in
+    let n = next-by v (dep-items v (at-match .match .keys7) (at-parts .parts .ensures)) in tally-both (at-pre .pre .0) (at-if1 .if1 .left)
+    (at-pre .pre .1 .1) (n .0) (n .1 .0))
     (λ c κs. omega (arith, c .before .before .before .before .before .before .pre .1 .1 .0))
     (λ c. omega (arith, c .before .before .before .before .before .before .if1 .left))
-    (λ c κs. tally-part (c .before .before .before .before .before .before .before .pre .0) (c .before .before .before .before .before .before .if1 .left) (c .before .before .before .before .before .before .before .pre .1 .1) (next-by (c .before .before .before .before .before .before .before .pre .1 .0) (except-items (c .before .before .before .before .before .before .before .pre .1 .0) (c .before .match .keys8) (c .split .ensures)) .0))
+    (λ c κs. let at-match = c .before in let at-if1 = at-match .before .before .before .before .before in let at-pre = at-if1 .before in
+    let v = at-pre .pre .1 .0 in tally-part (at-pre .pre .0) (at-if1 .if1 .left) (at-pre .pre .1 .1)
+    (next-by v (except-items v (at-match .match .keys8) (c .split .ensures)) .0))
     (λ c. omega (arith, c .before .before .before .before .before .if1 .left))
-    (λ c κs. tally-part (c .before .before .before .before .before .before .pre .0) (c .before .before .before .before .before .if1 .left) (c .before .before .before .before .before .before .pre .1 .1) (next-by (c .before .before .before .before .before .before .pre .1 .0) (fix-items (c .before .before .before .before .before .before .pre .1 .0) (c .match .keys9)) .0))
+    (λ c κs. let at-if1 = c .before .before .before .before .before in let at-pre = at-if1 .before in let v = at-pre .pre .1 .0 in tally-part
+    (at-pre .pre .0) (at-if1 .if1 .left) (at-pre .pre .1 .1) (next-by v (fix-items v (c .match .keys9)) .0))
     (λ c. omega (arith, c .before .before .before .before .before .if1 .left))
-    (λ c κs. tally-part (c .before .before .before .before .before .before .pre .0) (c .before .before .before .before .before .if1 .left) (c .before .before .before .before .before .before .pre .1 .1) (next-by (c .before .before .before .before .before .before .pre .1 .0) (again-items (c .before .before .before .before .before .before .pre .1 .0) (c .match .keys10)) .0))
-    (λ c. tally-any _ (walk-cell _ _ _ _ (c .before .before .before .before .before .before .if1 .left) (below-items (c .before .before .before .before .before .before .before .pre .1 .0) (c .before .match .keys1)) refl) (c .one .ensures))
-    (λ c. tally-any _ (walk-cell _ _ _ _ (c .before .before .before .before .before .before .if1 .left) (nats-items (c .before .before .before .before .before .before .before .pre .1 .0) (c .before .match .keys2)) refl) (c .one2 .ensures))
-    (λ c. tally-any _ (walk-cell _ _ _ _ (c .before .before .before .before .before .before .if1 .left) (pool-items (c .before .before .before .before .before .before .before .pre .1 .0) (c .before .match .keys3)) refl) (c .one3 .ensures))
-    (λ c. tally-up _ _ _ _ _ _ (walk-pass _ _ _ _ (c .before .before .before .before .before .before .if1 .left) (shift-items (c .before .before .before .before .before .before .before .pre .1 .0) (c .before .match .keys4)) refl) (c .tally .ensures))
-    (λ c. tally-any _ (walk-tag _ _ _ _ (c .before .before .before .before .before .before .before .before .before .before .if1 .left) (or-first (c .before .before .before .before .before .before .before .before .before .before .before .pre .1 .0) (c .before .before .before .before .before .match .keys5) (c .before .before .before .before .or-split .ensures) (c .before .before .m .given .1)) refl) (c .tagged .ensures))
-    (λ c. tally-any _ (walk-tag _ _ _ _ (c .before .before .before .before .before .before .before .before .before .before .if1 .left) (or-second (c .before .before .before .before .before .before .before .before .before .before .before .pre .1 .0) (c .before .before .before .before .before .match .keys5) (c .before .before .before .before .or-split .ensures) (c .before .before .m2 .given .1)) refl) (c .tagged2 .ensures))
-    (λ c. tally-by _ (walk-two _ _ _ _ (c .before .before .before .before .before .before .before .if1 .left) (cons-items (c .before .before .before .before .before .before .before .before .pre .1 .0) (c .before .before .match .keys6) (c .before .cons-split .ensures)) refl) (c .both .ensures))
-    (λ c. tally-by _ (walk-two _ _ _ _ (c .before .before .before .before .before .before .before .before .before .if1 .left) (dep-items (c .before .before .before .before .before .before .before .before .before .before .pre .1 .0) (c .before .before .before .before .match .keys7) (c .before .before .parts .ensures)) refl) (c .both2 .ensures))
-    (λ c. tally-by _ (walk-pass _ _ _ _ (c .before .before .before .before .before .before .before .if1 .left) (except-items (c .before .before .before .before .before .before .before .before .pre .1 .0) (c .before .before .match .keys8) (c .before .split .ensures)) refl) (c .tally2 .ensures))
-    (λ c. tally-by _ (walk-pass _ _ _ _ (c .before .before .before .before .before .before .if1 .left) (fix-items (c .before .before .before .before .before .before .before .pre .1 .0) (c .before .match .keys9)) refl) (c .tally3 .ensures))
-    (λ c. tally-by _ (walk-pass _ _ _ _ (c .before .before .before .before .before .before .if1 .left) (again-items (c .before .before .before .before .before .before .before .pre .1 .0) (c .before .match .keys10)) refl) (c .tally4 .ensures))
+    (λ c κs. let at-if1 = c .before .before .before .before .before in let at-pre = at-if1 .before in let v = at-pre .pre .1 .0 in tally-part
+    (at-pre .pre .0) (at-if1 .if1 .left) (at-pre .pre .1 .1) (next-by v (again-items v (c .match .keys10)) .0))
+    (λ c. let at-match = c .before in let at-if1 = at-match .before .before .before .before .before in let at-pre = at-if1 .before in
+    tally-any _ (walk-cell _ _ _ _ (at-if1 .if1 .left) (below-items (at-pre .pre .1 .0) (at-match .match .keys1)) refl) (c .one .ensures))
+    (λ c. let at-match = c .before in let at-if1 = at-match .before .before .before .before .before in let at-pre = at-if1 .before in
+    tally-any _ (walk-cell _ _ _ _ (at-if1 .if1 .left) (nats-items (at-pre .pre .1 .0) (at-match .match .keys2)) refl) (c .one2 .ensures))
+    (λ c. let at-match = c .before in let at-if1 = at-match .before .before .before .before .before in let at-pre = at-if1 .before in
+    tally-any _ (walk-cell _ _ _ _ (at-if1 .if1 .left) (pool-items (at-pre .pre .1 .0) (at-match .match .keys3)) refl) (c .one3 .ensures))
+    (λ c. let at-match = c .before in let at-if1 = at-match .before .before .before .before .before in let at-pre = at-if1 .before in tally-up
+    _ _ _ _ _ _ (walk-pass _ _ _ _ (at-if1 .if1 .left) (shift-items (at-pre .pre .1 .0) (at-match .match .keys4)) refl) (c .tally .ensures))
+    (λ c. let at-m = c .before .before in let at-or-split = at-m .before .before in let at-match = at-or-split .before in
+    let at-if1 = at-match .before .before .before .before .before in let at-pre = at-if1 .before in tally-any _ (walk-tag _ _ _ _
+    (at-if1 .if1 .left) (or-first (at-pre .pre .1 .0) (at-match .match .keys5) (at-or-split .or-split .ensures) (at-m .m .given .1)) refl)
+    (c .tagged .ensures))
+    (λ c. let at-m2 = c .before .before in let at-or-split = at-m2 .before .before in let at-match = at-or-split .before in
+    let at-if1 = at-match .before .before .before .before .before in let at-pre = at-if1 .before in tally-any _ (walk-tag _ _ _ _
+    (at-if1 .if1 .left) (or-second (at-pre .pre .1 .0) (at-match .match .keys5) (at-or-split .or-split .ensures) (at-m2 .m2 .given .1)) refl)
+    (c .tagged2 .ensures))
+    (λ c. let at-cons-split = c .before in let at-match = at-cons-split .before in
+    let at-if1 = at-match .before .before .before .before .before in let at-pre = at-if1 .before in tally-by _ (walk-two _ _ _ _
+    (at-if1 .if1 .left) (cons-items (at-pre .pre .1 .0) (at-match .match .keys6) (at-cons-split .cons-split .ensures)) refl)
+    (c .both .ensures))
+    (λ c. let at-parts = c .before .before in let at-match = at-parts .before .before in
+    let at-if1 = at-match .before .before .before .before .before in let at-pre = at-if1 .before in tally-by _ (walk-two _ _ _ _
+    (at-if1 .if1 .left) (dep-items (at-pre .pre .1 .0) (at-match .match .keys7) (at-parts .parts .ensures)) refl) (c .both2 .ensures))
+    (λ c. let at-split = c .before in let at-match = at-split .before in let at-if1 = at-match .before .before .before .before .before in
+    let at-pre = at-if1 .before in tally-by _ (walk-pass _ _ _ _ (at-if1 .if1 .left)
+    (except-items (at-pre .pre .1 .0) (at-match .match .keys8) (at-split .split .ensures)) refl) (c .tally2 .ensures))
+    (λ c. let at-match = c .before in let at-if1 = at-match .before .before .before .before .before in let at-pre = at-if1 .before in tally-by
+    _ (walk-pass _ _ _ _ (at-if1 .if1 .left) (fix-items (at-pre .pre .1 .0) (at-match .match .keys9)) refl) (c .tally3 .ensures))
+    (λ c. let at-match = c .before in let at-if1 = at-match .before .before .before .before .before in let at-pre = at-if1 .before in tally-by
+    _ (walk-pass _ _ _ _ (at-if1 .if1 .left) (again-items (at-pre .pre .1 .0) (at-match .match .keys10)) refl) (c .tally4 .ensures))
     (λ c. absurd (known (visited (c .before .before .before .before .before .before .pre .1 .0)) (c .match .rest))))
