@@ -9,62 +9,63 @@
 -- The reader of the crate `rows` goes on from there (`case-handed` of `Rattle.rows.proofs.OneList`).
 -- Assumes nothing.
 use mathlib.Core.Path.{_≡_, refl, sym, subst, _∙_}
-use mathlib.Core.Logic.{inl}
 use mathlib.Core.List.{List, [], _∷_, _++_, append-nil}
 use Prim.Native.Nat.{ℕ, _+_, _-_, _≤_, _<_}
 use native.Mathlib.Omega.{arith}
 use lib.ListN.{length}
+use Rattle.numbers.specs.Size.{Size, Below}
 use Rattle.grammar.specs.Table.{nodes}
-use Rattle.grammar.specs.Sizes.{sizeAt, sizes}
+use Rattle.grammar.specs.Sizes.{sizeAt, sizes, rulesOf}
 use Rattle.grammar.specs.Verdict.{verdict}
 use Rattle.grammar.specs.declared.refusal.Refusal.the-variants.{NotACase}
 use Rattle.grammar.specs.declared.refusal.Verdict.the-variants.{Accepted}
-use Rattle.grammar.specs.Sizes.{rulesOf}
 use Rattle.walk.specs.Walk.{walk, cells, depth}
 use Rattle.walk.specs.Room.{Case, most}
 use Rattle.walk.specs.Run.{read, run}
 use Rattle.grammar.specs.Law.{Good}
-use Rattle.walk.proofs.Parts.{Goes}
-use Rattle.walk.proofs.Back.{shifted-none, back}
+use Rattle.walk.proofs.Back.{back}
 use Rattle.walk.proofs.Only.{only, prefix-free}
 use Rattle.cases.specs.Read.{reads}
 use Rattle.cases.specs.Write.{writes}
 use Rattle.cases.specs.declared.reading.Found.the-variants.{Number, Refused}
 use Rattle.cases.specs.declared.writing.Written.the-variants.{Done}
-use Rattle.cases.proofs.Meaning.{accepted-passes, accepted-checked}
-use Rattle.checked.proofs.Walking.{good-of}
+use Rattle.cases.proofs.Meaning.{accepted-checked}
 use Rattle.checked.specs.Fits.{Asked}
 use Rattle.checked.proofs.Fitted.{cells-map}
 use Rattle.cases.proofs.Doors.{reads-is, left-over, found-number, number-found, writes-is, writes-done}
 
 module _ (t p : List ℕ) (a : verdict t p ≡ Accepted) (i : ℕ) (l : i < nodes t) where
-  good : Good (rulesOf t p) (nodes t)
-  good = good-of t p (accepted-passes t p a) (accepted-checked t p a)
+  abbrev z : ℕ → Size
+  z = sizeAt (sizes t p)
 
-  goes : {n : ℕ} → Asked (sizeAt (sizes t p) i) n → Goes (rulesOf t p) (nodes t) i n
-  goes q = record { node = l; below = q .below }
+  good : Good z (nodes t) (rulesOf t p)
+  good = accepted-checked t p a .good
+
+  -- a number asked for is below the size that the scan has
+  below : {n : ℕ} → Asked (rulesOf t p i .size) n → Below n (z i)
+  below {n} q = subst (Below n) (sym (good .sized i l)) (q .below)
 
   -- ---- what a case is
   case-of : (n room k : ℕ) → writes t p i n room ≡ Done k → Case (rulesOf t p) i n (cells (walk (rulesOf t p) depth 0 i n))
   case-of n room k e = let (q, s, c, f) = writes-done t p a i l n room k e in record { shows = s; few = omega arith }
 
-  pub case-written : (n room : ℕ) (cs : List ℕ) → Asked (sizeAt (sizes t p) i) n → Case (rulesOf t p) i n cs → length cs ≤ room
+  pub case-written : (n room : ℕ) (cs : List ℕ) → Asked (rulesOf t p i .size) n → Case (rulesOf t p) i n cs → length cs ≤ room
       → (writes t p i n room ≡ Done (length cs)) × (cells (walk (rulesOf t p) depth 0 i n) ≡ cs)
   case-written n room cs q c f = (writes-is t p a i l n room cs q (c .shows) (omega (arith, c .few)), rw (c .shows) (cells-map cs))
 
   -- ---- 4. a case followed by anything
-  pub reads-on : (n : ℕ) (cs rest : List ℕ) (q : ℕ) → Asked (sizeAt (sizes t p) i) n → Case (rulesOf t p) i n cs
+  pub reads-on : (n : ℕ) (cs rest : List ℕ) (q : ℕ) → Asked (rulesOf t p i .size) n → Case (rulesOf t p) i n cs
       → run (rulesOf t p) depth 0 i (length cs + q) (cs ++ rest) ≡ read n q rest
-  reads-on n cs rest q k c = rw shifted-none at (back (rulesOf t p) (nodes t) good depth i n (goes k) 0 (inl refl) cs (c .shows) q rest)
+  reads-on n cs rest q k c = back z (nodes t) (rulesOf t p) good depth 0 i n l (below k) cs (c .shows) q rest
 
   -- so `read`, which is for a whole case, refuses it
-  pub longer-refused : (n : ℕ) (cs : List ℕ) (c : ℕ) (more : List ℕ) → Asked (sizeAt (sizes t p) i) n → Case (rulesOf t p) i n cs → reads t p i (cs ++ (c ∷ more)) ≡ Refused NotACase 0
+  pub longer-refused : (n : ℕ) (cs : List ℕ) (c : ℕ) (more : List ℕ) → Asked (rulesOf t p i .size) n → Case (rulesOf t p) i n cs → reads t p i (cs ++ (c ∷ more)) ≡ Refused NotACase 0
   longer-refused n cs c more q k =
       let room : length cs + (most - length cs) ≡ most = omega (arith, k .few) in
       reads-is t p a i l (cs ++ (c ∷ more)) ∙ left-over _ (rw room at (reads-on n cs (c ∷ more) (most - length cs) q k))
 
   -- ---- 1. written, then read
-  case-read : (n : ℕ) (cs : List ℕ) → Asked (sizeAt (sizes t p) i) n → Case (rulesOf t p) i n cs → reads t p i cs ≡ Number n
+  case-read : (n : ℕ) (cs : List ℕ) → Asked (rulesOf t p i .size) n → Case (rulesOf t p) i n cs → reads t p i cs ≡ Number n
   case-read n cs q c =
       let room : length cs + (most - length cs) ≡ most = omega (arith, c .few) in
       reads-is t p a i l cs ∙ number-found _ n (most - length cs) (rw (room, append-nil) at (reads-on n cs [] (most - length cs) q c)) (q .small)
@@ -73,12 +74,12 @@ module _ (t p : List ℕ) (a : verdict t p ≡ Accepted) (i : ℕ) (l : i < node
   written-then-read n room k e = case-read n _ (writes-done t p a i l n room k e .0) (case-of n room k e)
 
   -- ---- 3. nothing else is accepted
-  pub only-cases : (n : ℕ) (cs : List ℕ) → reads t p i cs ≡ Number n → Asked (sizeAt (sizes t p) i) n × Case (rulesOf t p) i n cs
+  pub only-cases : (n : ℕ) (cs : List ℕ) → reads t p i cs ≡ Number n → Asked (rulesOf t p i .size) n × Case (rulesOf t p) i n cs
   only-cases n cs e =
       let (q, r, s) = found-number _ n (sym (reads-is t p a i l cs) ∙ e) in
-      let (b, (ws, shows, stands, room)) = only (rulesOf t p) (nodes t) good depth i l 0 most cs (inl refl) r in
-      let same : ws ≡ cs = sym (stands ∙ rw shifted-none (append-nil ws)) in
-      (record { below = b; small = s }, subst (Case (rulesOf t p) i n) same (record { shows = shows; few = omega arith }))
+      let (b, w) = only z (nodes t) (rulesOf t p) good depth 0 i l most cs r in
+      let same : w .ws ≡ cs = sym (w .stands ∙ append-nil (w .ws)) in
+      (record { below = subst (Below n) (good .sized i l) b; small = s }, subst (Case (rulesOf t p) i n) same (record { shows = w .shows; few = omega (arith, w .room) }))
 
   pub one-case : (n : ℕ) (cs ds : List ℕ) → reads t p i cs ≡ Number n → reads t p i ds ≡ Number n → cs ≡ ds
   one-case n cs ds e f =
@@ -98,4 +99,4 @@ module _ (t p : List ℕ) (a : verdict t p ≡ Accepted) (i : ℕ) (l : i < node
   no-beginning m n cs more e f =
       let (q, c) = only-cases m cs e in
       let (r, d) = only-cases n (cs ++ more) f in
-      prefix-free (rulesOf t p) (nodes t) good depth i m n (goes q) (goes r) cs (cs ++ more) more (c .shows) (d .shows) refl
+      prefix-free z (nodes t) (rulesOf t p) good depth i m n l (below q) (below r) cs (cs ++ more) more (c .shows) (d .shows) refl

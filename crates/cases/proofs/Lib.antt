@@ -7,7 +7,4 @@ pub mod Worked
 pub mod WorkedCases
 pub mod Counts
 pub mod Ranks
-pub mod Descent
-pub mod Wholes
-pub mod Falling
 pub mod Ends

@@ -1,10 +1,10 @@
--- What the verdict means, for a reader who trusts paths and not a computed test. The nodes are judged one by one (`Rattle.grammar.specs.Rows`). Of a table whose
+-- What the verdict means, for a reader who trusts paths and not a computed test. The nodes are judged one by one (`Rattle.grammar.specs.Nodes`). Of a table whose
 -- lengths are right and whose nodes all pass, the verdict is 9 with the lowest node on an unguarded cycle, else 10 with the lowest except on a cycle, else
 -- accepted; a cycle is a path of any length from a node to itself.
 --   leads-is                       the computed test agrees with paths of any length
 --   verdict-9, -10, -accepted      the verdict by the cycles
 --   accepted-means                 an accepted table has neither
---   accepted-size, accepted-small  "a node's size is what 01's column Size gives", and at most 2^62 where it is finite
+--   accepted-size, accepted-fit    a node's size is its rule's, and 1 to 2^62 where it is finite
 -- Assumes nothing.
 use mathlib.Core.Path.{_≡_, refl, sym, _∙_}
 use mathlib.Core.Bool.{Bool, true, false, _&&_}
@@ -21,8 +21,8 @@ use Rattle.graph.proofs.Marks.{le-or-lt}
 use Rattle.graph.proofs.Lowest.{lowest-256}
 use Rattle.graph.proofs.Ways.{via-decide}
 use Rattle.grammar.specs.Table.{nodes, lengths}
-use Rattle.grammar.specs.Rows.{sizeFor}
-use Rattle.grammar.specs.Sizes.{Scan, passed, sizeAt, scan, sizes, sizesIn}
+use Rattle.grammar.specs.Sizes.{Scan, passed, sizeAt, scan, sizes, sizesIn, rulesOf}
+use Rattle.grammar.specs.Checks.{Fit}
 use Rattle.grammar.specs.Checked.{Checked}
 use Rattle.grammar.specs.Steps.{Leads, Unguarded, ExceptOnCycle}
 use Rattle.grammar.specs.Verdict.{leads, unguarded, exceptOnCycle, cycles, settled, verdict}
@@ -30,7 +30,7 @@ use Rattle.grammar.specs.declared.refusal.Refusal.{Refusal}
 use Rattle.grammar.specs.declared.refusal.Refusal.the-variants.{Length, Unguarded as Rule9, ExceptOnCycle as Rule10}
 use Rattle.grammar.specs.declared.refusal.Verdict.the-variants.{Accepted, Refused}
 use Rattle.grammar.proofs.Tests.{and-left, and-right}
-use Rattle.grammar.proofs.Scan.{scan-sound, scan-size}
+use Rattle.grammar.proofs.Checked.{checked-of}
 use Rattle.cycles.proofs.Table.{graph, unguarded-is, except-is, cycles-by}
 use Rattle.checked.proofs.Preparing.{refused-not}
 
@@ -45,7 +45,7 @@ lengths-mean t p e =
 
 module _ (t p : List ℕ) {zs : List Size} (long : lengths t p ≡ true) (pass : scan t p (nodes t) ≡ passed zs) where
   pub table-checked : Checked t p (sizeAt zs)
-  table-checked = let (w, f) = lengths-mean t p long in record { whole = w; few = f; sound = λ n l. scan-sound t p pass n l }
+  table-checked = let (w, f) = lengths-mean t p long in checked-of t p pass w f
 
   pub leads-is : (guarded : Bool) (a b : ℕ) → Decides (Leads guarded t p (sizeAt zs) a b) (leads guarded t p (sizeAt zs) a b)
   unfolding leads
@@ -95,5 +95,8 @@ module _ (t p : List ℕ) (a : verdict t p ≡ Accepted) where
   pub accepted-checked : Checked t p (sizeAt (sizes t p))
   accepted-checked = table-checked t p accepted-long accepted-passes
 
-  pub accepted-size : (n : ℕ) → n < nodes t → sizeAt (sizes t p) n ≡ sizeFor p (sizeAt (sizes t p)) (nodeAt t n)
-  accepted-size n l = scan-size t p accepted-passes n l
+  pub accepted-size : (n : ℕ) → n < nodes t → sizeAt (sizes t p) n ≡ rulesOf t p n .size
+  accepted-size n l = accepted-checked .good .sized n l
+
+  pub accepted-fit : (n : ℕ) → n < nodes t → Fit (sizeAt (sizes t p) n)
+  accepted-fit n l = accepted-checked .fit n l

@@ -1,22 +1,17 @@
 // From cells to the number.
 ghost use mathlib.Core.Path.{_≡_};
-ghost use Prim.Native.Nat.{ℕ, _^_, _≤_};
 ghost use Rattle.walk.specs.Run.{Read};
-ghost use Rattle.walk.specs.Room.{most};
-ghost use Rattle.visits.specs.Got.{Took};
 ghost use Rattle.checked.specs.Prepared.{Blank, Planning};
+ghost use Rattle.checked.specs.Item.{Met};
 ghost use Rattle.cases.specs.Read.{found, finds, reads};
-use checked::fits::DEPTH;
-use checked::fits::MOST_CELLS;
+use checked::item::Got;
+use checked::item::got_at;
 use checked::prepared::PLAN;
 use checked::prepared::SMALL;
 use checked::prepared::SMALL_PLAN;
 use checked::prepared::prepare;
 use grammar::refusal::Refusal;
 use grammar::refusal::Verdict;
-use numbers::size::LARGEST;
-use visits::number::Got;
-use walk::take::take;
 
 // The number, or the refusal and its node.
 pub enum Found {
@@ -24,22 +19,19 @@ pub enum Found {
     Refused(Refusal, u64),
 }
 
-// "Then cells left over (15, whole-case reading), then 16."
+// "Then cells left over (15, whole-case reading only), then 16."
 fn whole(cells: &[u64], g: Got) -> Found
-    ensures { λ r. ⌜ ((least : ℕ) (w : Read) → 2 ^ 62 ≤ least → Took least w (now (cells .entry)) most g → r ≡ found w) ⌝ }
+    ensures { λ r. ⌜ ((w : Read) → Met w (now (cells .entry)) 0 g → r ≡ found w) ⌝ }
 {
     match g {
-        Got::Number(n, next) => {
+        Got::Below(n, next) => {
             if next < cells.len() {
                 return Found::Refused(Refusal::NotACase, 0);
             }
-            if LARGEST <= n {
-                return Found::Refused(Refusal::NumberTooLarge, 0);
-            }
             Found::Number(n)
         }
-        Got::Big(end) => {
-            if end < cells.len() {
+        Got::Beyond(next) => {
+            if next < cells.len() {
                 return Found::Refused(Refusal::NotACase, 0);
             }
             Found::Refused(Refusal::NumberTooLarge, 0)
@@ -56,10 +48,7 @@ fn read_planned(table: &[u64], pool: &[u64], plan: &[u64], start: usize, cells: 
     if table.len() / 3 <= start {
         return Found::Refused(Refusal::NoSuchStart, 0);
     }
-    whole(
-        cells,
-        take(plan, pool, start, DEPTH, 0, cells, 0, MOST_CELLS),
-    )
+    whole(cells, got_at(plan, pool, start, cells, 0))
 }
 
 // The call over a lent plan: the check comes first.

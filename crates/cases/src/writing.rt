@@ -34,7 +34,7 @@ fn write_settled(
     requires { ⌜ Settled (ruleIn (now plan) (now pool)) start number (length (now cells)) ⌝ }
     ensures { λ r. ⌜ WroteCase (ruleIn (now (plan .entry)) (now (pool .entry))) start number (now (cells .entry)) (now (cells .exit)) r ⌝ }
 {
-    match fits(plan, pool, start, number, cells.len(), cells) {
+    match fits(plan, pool, start, number, cells) {
         Fit::Cells(k) => Written::Done(k),
         Fit::Not(r) => Written::Refused(r, 0),
     }

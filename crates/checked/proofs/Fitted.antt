@@ -19,7 +19,7 @@ use Rattle.walk.specs.Walk.{Event, cell, deep, walk, cells, depth}
 use Rattle.walk.specs.Room.{Left, tallied}
 use Rattle.checked.specs.Fits.{asked, Asked, roomFor, outcome, fitted}
 use Rattle.checked.specs.declared.fits.Fit.the-variants.{Cells, Not}
-use Rattle.walk.proofs.Lays.{tally-count}
+use Rattle.walk.proofs.Rooms.{tally-count}
 use Rattle.checked.proofs.Fitting.{was-asked, cells-left}
 
 pub is-asked : (s : Size) (n : ℕ) → Asked s n → asked s n ≡ true

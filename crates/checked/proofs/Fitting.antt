@@ -3,26 +3,29 @@
 --   fit-13, fit-14, fit-cells  what a walk hands back
 --   decided-12, fits-12        refused before the walk
 --   visits-of, may             else the walk may be made
---   decided-walk, fits-walk    by what the walk met, without a buffer and over one
+--   lent-long                  the front of a buffer that is lent to it
+--   decided-walk, fits-walk    by what the walk met, without a buffer and over the front of one
 -- Assumes nothing.
-use mathlib.Core.Path.{_≡_, refl, sym, _∙_}
+use mathlib.Core.Path.{_≡_, refl, sym, subst, ap, _∙_}
 use mathlib.Core.Bool.{Bool, true, false, _&&_, false≢true}
-use mathlib.Core.List.{List}
-use Prim.Native.Nat.{ℕ, _+_, _*_, _-_, _^_, _≤_, _<_}
+use mathlib.Core.List.{List, [], _∷_, _++_}
+use Prim.Native.Nat.{ℕ, zero, suc, _+_, _*_, _-_, _^_, _≤_, _<_}
+use native.Mathlib.Nat.{not-suc-le-zero, le-of-suc-le-suc}
 use native.Mathlib.Omega.{arith}
 use lib.Dec.{ltb}
-use lib.ListN.{getD}
+use lib.ListN.{length, getD, take, drop, length-take, length-drop, length-append, take-append-drop}
 use borrow.Author.Tests.{lt-ltb, le-ltb, ltb-true, ne-eqb}
-use Rattle.numbers.specs.Size.{Size, finite, endless, sizeOf, below}
+use Rattle.numbers.specs.Size.{Size, finite, endless, sizeOf, below, Below}
 use Rattle.numbers.proofs.size.Laws.{by-size}
 use Rattle.grammar.specs.declared.refusal.Refusal.the-variants.{NoSuchNumber, TooDeep, NoRoom}
 use Rattle.grammar.proofs.Tests.{and-left, and-right}
 use Rattle.grammar.specs.Plan.{ruleIn}
-use Rattle.walk.specs.Walk.{Event, walk, depth}
+use Rattle.walk.specs.Walk.{walk, cells, depth}
 use Rattle.walk.specs.Room.{RoomLeft, Left, tallied}
 use Rattle.walk.specs.Room.{TooDeep as Deep, NoRoom as Full}
 use Rattle.walk.specs.Laid.{leftOf, Laid}
-use Rattle.walk.proofs.Lays.{word-left, tally-count}
+use Rattle.walk.specs.Filled.{over}
+use Rattle.walk.proofs.Rooms.{word-left, tally-count}
 use Rattle.walk.specs.Plan.{Visits}
 use Rattle.walk.specs.Plan.{Reading}
 use Rattle.checked.specs.Fits.{asked, Asked, roomFor, outcome, fitted, FitOver}
@@ -66,38 +69,64 @@ cells-left room k (Left rest) e = let s : room - rest ≡ k = cc in (rest, refl,
 cells-left room k Deep e = let z : _≡_ {A = ℕ} 0 1 = cc in absurd (omega arith)
 cells-left room k Full e = let z : _≡_ {A = ℕ} 0 1 = cc in absurd (omega arith)
 
-pub left-within : (room : ℕ) (es : List Event) (w : ℕ) → leftOf w ≡ tallied room es → w < 2 ^ 63 → w ≤ room
-left-within room es w e q = omega (arith, tally-count room es (sym e ∙ word-left w q))
-
 module _ {plan p : List ℕ} {i : ℕ} (h : Reading plan p i) (n room : ℕ) {b : Bool} (a : b ≡ asked (sizeOf (getD plan (4 * i + 3) 0)) n) where
-  -- ---- refused before the walk: the buffer is as it was
+  -- the size that the plan has is the rule's
+  asked-here : b ≡ asked (ruleIn plan p i .size) n
+  asked-here = a ∙ ap (λ (s : Size). asked s n) (h .walks .good .sized i (h .node))
+
+  -- ---- refused before the walk
   pub decided-12 : b ≡ false → Not NoSuchNumber ≡ fitted (ruleIn plan p) i n room
   unfolding fitted
-  decided-12 e = rw (← a, e)
-
-  pub fits-12 : {old : List ℕ} → b ≡ false → FitOver (ruleIn plan p) i n room old old (Not NoSuchNumber)
-  fits-12 e = record { is = decided-12 e; long = refl; holds = λ k q. let z : _≡_ {A = ℕ} 0 1 = cc in absurd (omega arith); kept = λ _. refl }
+  decided-12 e = rw (← asked-here, e)
 
   -- ---- by what the walk met
   module _ (yes : b ≡ true) where
-    is-so : asked (ruleIn plan p i .size) n ≡ true
-    is-so = sym a ∙ yes
+    pub is-so : asked (ruleIn plan p i .size) n ≡ true
+    is-so = sym asked-here ∙ yes
 
     pub may : Asked (ruleIn plan p i .size) n
     may = was-asked (ruleIn plan p i .size) n is-so
 
     pub visits-of : Visits plan p i n
-    visits-of = record { walks = h .walks; node = h .node; below = may .below }
+    visits-of = record { walks = h .walks; node = h .node; below = subst (Below n) (sym (h .walks .good .sized i (h .node))) (may .below) }
 
-    module _ {most : ℕ} (w : ℕ) {f : Fit} (m : most ≡ roomFor room) (e : f ≡ outcome most (leftOf w)) where
-      pub decided-walk : leftOf w ≡ tallied most (walk (ruleIn plan p) depth 0 i n) → f ≡ fitted (ruleIn plan p) i n room
-      unfolding fitted
-      decided-walk l = e ∙ rw (is-so, l, m)
+    pub decided-walk : {most : ℕ} (w : ℕ) {f : Fit} → most ≡ roomFor room → f ≡ outcome most (leftOf w) → leftOf w ≡ tallied most (walk (ruleIn plan p) depth 0 i n)
+        → f ≡ fitted (ruleIn plan p) i n room
+    unfolding fitted
+    decided-walk w m e l = e ∙ rw (is-so, l, m)
 
-      pub fits-walk : {old last : List ℕ} → Laid most (walk (ruleIn plan p) depth 0 i n) old last (leftOf w) → FitOver (ruleIn plan p) i n room old last f
-      fits-walk l = record {
-        is = decided-walk (l .is);
-        long = l .long;
-        holds = λ k q. let (rest, x, y) = cells-left most k (leftOf w) (sym e ∙ q) in l .holds rest x;
-        kept = λ u. absurd (false≢true (sym u ∙ is-so));
-      }
+-- ---- over a buffer: after 12 it is as it was
+pub lent-long : (old : List ℕ) {most : ℕ} → most ≡ roomFor (length old) → most ≡ length (take most old)
+lent-long old m = simp length-take (omega (arith, m))
+
+over-part : (cs old : List ℕ) (k : ℕ) → length cs ≤ k → over cs (take k old) ++ drop k old ≡ over cs old
+unfolding over
+over-part [] old k l = take-append-drop k old
+over-part (c ∷ cs) [] k l = empty k
+  where
+    empty : (k : ℕ) → over (c ∷ cs) (take k []) ++ drop k [] ≡ []
+    empty zero = refl
+    empty (suc k) = refl
+over-part (c ∷ cs) (x ∷ old) zero l = absurd (not-suc-le-zero l)
+over-part (c ∷ cs) (x ∷ old) (suc k) l = ap (λ (xs : List ℕ). c ∷ xs) (over-part cs old k (le-of-suc-le-suc l))
+
+module _ {plan p : List ℕ} {i : ℕ} (h : Reading plan p i) (n : ℕ) {b : Bool} (a : b ≡ asked (sizeOf (getD plan (4 * i + 3) 0)) n) (old : List ℕ) where
+  pub fits-12 : b ≡ false → FitOver (ruleIn plan p) i n old old (Not NoSuchNumber)
+  fits-12 e = record { is = decided-12 h n (length old) a e; long = refl; holds = λ k q. let z : _≡_ {A = ℕ} 0 1 = cc in absurd (omega arith); kept = λ _. refl }
+
+  -- the front of the buffer, as long as a case may be, is lent on
+  module _ (yes : b ≡ true) {most : ℕ} (w : ℕ) {f : Fit} (m : most ≡ roomFor (length old)) (e : f ≡ outcome most (leftOf w)) where
+    pub fits-walk : {part last : List ℕ} → Laid (length (take most old)) (walk (ruleIn plan p) depth 0 i n) (take most old) part (leftOf w) → last ≡ part ++ drop most old
+        → FitOver (ruleIn plan p) i n old last f
+    fits-walk {part} {last} l g =
+        let long : length (take most old) ≡ most = sym (lent-long old m) in
+        let is : leftOf w ≡ tallied most (walk (ruleIn plan p) depth 0 i n) = rw long at (l .is) in
+        record {
+          is = decided-walk h n (length old) a yes w m e is;
+          long = rw g (simp length-append (omega (arith, l .long, long, length-drop most old, m)));
+          holds = λ k q.
+              let (rest, x, y) = cells-left most k (leftOf w) (sym e ∙ q) in
+              let few : length (cells (walk (ruleIn plan p) depth 0 i n)) ≤ most = omega (arith, tally-count most (walk (ruleIn plan p) depth 0 i n) (sym is ∙ x)) in
+              g ∙ (ap (λ (xs : List ℕ). xs ++ drop most old) (l .holds rest x) ∙ over-part (cells (walk (ruleIn plan p) depth 0 i n)) old most few);
+          kept = λ u. absurd (false≢true (sym u ∙ is-so h n (length old) a yes));
+        }

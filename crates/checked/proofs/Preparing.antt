@@ -20,7 +20,7 @@ use Rattle.grammar.specs.declared.refusal.Refusal.{Refusal}
 use Rattle.grammar.specs.declared.refusal.Refusal.the-variants.{Length}
 use Rattle.grammar.specs.declared.refusal.Verdict.{Verdict}
 use Rattle.grammar.specs.declared.refusal.Verdict.the-variants.{Accepted, Refused}
-use Rattle.grammar.proofs.Scan.{scan-sound}
+use Rattle.grammar.proofs.Checked.{checked-of}
 use Rattle.grammar.proofs.Plans.{plan-sizes}
 use Rattle.checked.specs.Prepared.{Prepared}
 
@@ -51,7 +51,7 @@ module _ (t p : List ℕ) {plan : List ℕ} (whole : length t ≡ 3 * nodes t) (
     plans = told a e .1
 
     checked : Checked t p (sizeAt (sizes t p))
-    checked = record { whole = whole; few = few; sound = λ n l. scan-sound t p passes n l }
+    checked = checked-of t p passes whole few
 
     same : sizeIn plan ≡ sizeAt (sizes t p)
     same = fun-ext (plan-sizes plans)
@@ -59,9 +59,9 @@ module _ (t p : List ℕ) {plan : List ℕ} (whole : length t ≡ 3 * nodes t) (
     pub prepared-ready : Ready t p plan
     prepared-ready = record { checked = rw same checked; long = plans .long }
 
-    pub prepared-cycles : {w : Verdict} → w ≡ cycles t p (sizeIn plan) → Prepared t p plan w
+    pub prepared-cycles : length plan ≤ 1024 → {w : Verdict} → w ≡ cycles t p (sizeIn plan) → Prepared t p plan w
     unfolding verdict settled
-    prepared-cycles f = record {
+    prepared-cycles l f = record {
       is = rw (long, passes) (f ∙ ap (λ (z : ℕ → Size). cycles t p z) same);
-      ready = λ x. record { passes = passes; plans = plans; checked = checked };
+      ready = λ x. record { passes = passes; plans = plans; checked = checked; short = l; slight = pooled };
     }

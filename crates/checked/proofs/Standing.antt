@@ -1,69 +1,106 @@
--- What the code of `item_at` has found, in the words of its promise.
---   front-large, front-big, front-wrong   refused, by the walk or by 16
---   front-there     a number, and the cells after its case: a case has at least one cell, so the place moves on
+-- What the code of `got_at` and `item_at` has found, in the words of their promises.
+--   row-few, within                    the cells that are lent to the walk, and the place after those that it read
+--   met-below, met-beyond, met-wrong   by the word that the walk handed back
+--   stood-number, stood-large, stood-wrong   by what was met, and 16
 -- Assumes nothing.
-use mathlib.Core.Path.{_≡_, refl, ap, subst, _∙_}
-use mathlib.Core.Logic.{inl}
-use mathlib.Core.List.{List, _++_}
-use Prim.Native.Nat.{ℕ, _+_, _-_, _^_, _≤_, _<_}
+use mathlib.Core.Path.{_≡_, refl, sym, subst, ap, _∙_}
+use mathlib.Core.Logic.{⊎-elim}
+use mathlib.Core.List.{List, [], _∷_, _++_, map}
+use Prim.Native.Nat.{ℕ, zero, suc, _+_, _-_, _^_, _≤_, _<_}
 use native.Mathlib.Omega.{arith}
-use lib.ListN.{length, drop, length-append, length-drop}
+use lib.Dec.{leb}
+use lib.ListN.{length, take, drop, length-append, length-take, length-drop, length-map}
+use lib.Seq.{drop-drop, take-all, take-length}
 use borrow.Author.Tests.{lt-ltb, le-ltb}
+use Rattle.numbers.specs.Joined.{limit}
+use Rattle.graph.proofs.Marks.{le-or-lt}
 use Rattle.grammar.specs.declared.refusal.Refusal.{Refusal}
 use Rattle.grammar.specs.declared.refusal.Refusal.the-variants.{NumberTooLarge}
-use Rattle.grammar.specs.Plan.{ruleIn}
-use Rattle.walk.specs.Walk.{depth}
+use Rattle.grammar.specs.Plan.{sizeIn, ruleIn}
+use Rattle.walk.specs.Walk.{Event, cell, walk, depth}
 use Rattle.walk.specs.Room.{most}
-use Rattle.walk.specs.Run.{Read, run}
-use Rattle.visits.specs.Got.{Inside, Took}
+use Rattle.walk.specs.Run.{Read, read, wrong, run}
+use Rattle.walk.specs.Took.{whyOf, Took, exact, large, stops, Taken}
 use Rattle.walk.specs.Plan.{Reading}
-use Rattle.visits.specs.declared.number.Got.{Got}
-use Rattle.visits.specs.declared.number.Got.the-variants.{Number as Read-number, Big, Wrong}
-use Rattle.walk.proofs.Takes.{told}
-use Rattle.walk.proofs.Back.{shifted-none}
 use Rattle.walk.proofs.Only.{only}
-use Rattle.walk.proofs.Strides.{case-some}
-use Rattle.walk.specs.Plan.{Reading}
-use Rattle.checked.specs.Item.{frontOf, front, Stood}
+use Rattle.walk.proofs.Ends.{walk-some}
+use Rattle.checked.specs.Fits.{roomFor}
+use Rattle.checked.specs.Item.{frontOf, front, MetBy, Met, Stood}
+use Rattle.checked.specs.declared.item.Got.{Got}
+use Rattle.checked.specs.declared.item.Got.the-variants.{Below, Beyond, Wrong}
 use Rattle.checked.specs.declared.item.Item.the-variants.{Number, Not}
 
-pub reads-of : {plan p : List ℕ} {i : ℕ} → Reading plan p i → Reading plan p i 0
-reads-of h = record { walks = h .walks; node = h .node; single = inl refl }
+take-few : (l : List ℕ) {k : ℕ} → k ≡ roomFor (length l) → take k l ≡ take most l
+take-few l {k} e =
+    ⊎-elim (λ u. let f : k ≡ length l = omega arith in rw f (take-length l ∙ sym (take-all most l u))) (λ u. let f : k ≡ most = omega arith in rw f) (le-or-lt (length l) most)
 
-module _ {plan p : List ℕ} {i : ℕ} (h : Reading plan p i) (cells : List ℕ) (at : ℕ) {least : ℕ} {g : Got} (lo : 2 ^ 62 ≤ least)
-    (took : Took least (run (ruleIn plan p) depth 0 i ((at + most) - at) (drop at cells)) cells (at + most) g) where
-  abbrev walked : Read
-  walked = run (ruleIn plan p) depth 0 i most (drop at cells)
+-- the cells that are lent to the walk
+pub row-few : (cells : List ℕ) (at few : ℕ) → few ≡ roomFor (length cells - at) → length (take few (drop at cells)) ≤ most
+row-few cells at few f = simp (length-take, length-drop) (omega (arith, f))
 
-  whole : (at + most) - at ≡ most
-  whole = omega arith
+-- a case has at least one cell, so the place moves on
+module _ {plan p : List ℕ} {i : ℕ} (h : Reading plan p i) where
+  some-read : (cs : List ℕ) {n q : ℕ} {rest : List ℕ} → run (ruleIn plan p) depth 0 i most cs ≡ read n q rest → length rest < length cs
+  some-read cs {n} {q} {rest} e =
+      let w = h .walks in
+      let (b, s) = only (sizeIn plan) (w .count) (ruleIn plan p) (w .good) depth 0 i (h .node) most cs e in
+      let some = walk-some (sizeIn plan) (w .count) (ruleIn plan p) (w .good) depth i n (h .node) b 0 in
+      let long : length (walk (ruleIn plan p) depth 0 i n) ≡ length (s .ws) = ap length (s .shows) ∙ length-map (s .ws) cell in
+      omega (arith, some, long, ap length (s .stands), length-append (s .ws) rest)
 
-  took' : Took least walked cells (at + most) g
-  took' = rw whole at took
+  module _ (cells : List ℕ) (at : ℕ) (in-cells : at ≤ length cells) (few : ℕ) (f : few ≡ roomFor (length cells - at)) {row : List ℕ} (lent : row ≡ take few (drop at cells))
+      {least used word : ℕ} (lo : 2 ^ 62 ≤ least) (t : Taken least (run (ruleIn plan p) depth 0 i) row 0 used word) where
+    abbrev walked : Read
+    walked = run (ruleIn plan p) depth 0 i most (drop at cells)
 
-  module _ {n next : ℕ} (e : g ≡ Read-number n next) where
-    pub front-large : 2 ^ 62 ≤ n → Stood (front (ruleIn plan p) i (drop at cells)) cells at (Not NumberTooLarge)
-    unfolding frontOf
-    front-large s = record { is = rw (told took' e .0, le-ltb n (2 ^ 62) s) }
+    took : Took least walked (drop at cells) most used word
+    took = t .took (drop at cells) most (lent ∙ take-few (drop at cells) (f ∙ ap roomFor (sym (length-drop at cells))))
 
-    -- at least one cell is read
-    goes-on : length (drop next cells) < length (drop at cells)
-    goes-on =
-        let (b, (ws, shows, stands, room)) = only (ruleIn plan p) (h .walks .count) (h .walks .good) depth i (h .node) 0 most (drop at cells) (inl refl) (told took' e .0) in
-        let some : 0 < length ws = case-some (ruleIn plan p) i n ws (record { shows = shows; few = omega arith }) in
-        let cut : drop at cells ≡ ws ++ drop next cells = stands ∙ rw shifted-none in
-        omega (arith, ap length cut, length-append ws (drop next cells))
+    pub within : word ≤ 2 ^ 63 → at + used ≤ length cells
+    within l = omega (arith, t .inside l, ap length lent, length-take few (drop at cells), length-drop at cells, f)
 
-    pub front-there : n < 2 ^ 62 → Stood (front (ruleIn plan p) i (drop at cells)) cells at (Number n next)
-    unfolding frontOf
-    front-there s =
-        let l : next ≤ length cells = subst (Inside cells) e (took .inside) in
-        record { is = (rw (told took' e .0, lt-ltb n (2 ^ 62) s), omega (arith, goes-on, length-drop next cells, length-drop at cells), l) }
+    after : drop used (drop at cells) ≡ drop (at + used) cells
+    after = drop-drop used at cells
 
-  pub front-big : {next : ℕ} → g ≡ Big next → Stood (front (ruleIn plan p) i (drop at cells)) cells at (Not NumberTooLarge)
+    pub met-below : word < 2 ^ 62 → Met walked cells at (Below word (at + used))
+    met-below l = record { is = by took }
+      where
+        by : Took least walked (drop at cells) most used word → MetBy walked cells at (Below word (at + used))
+        by (exact s e) =
+            let g : walked ≡ read word (most - used) (drop (at + used) cells) = e ∙ rw after in
+            (most - used, g, l, omega (arith, some-read (drop at cells) g, length-drop (at + used) cells, length-drop at cells, within (omega arith)), within (omega arith))
+        by (large s m k e) = absurd (omega arith)
+        by (stops s e) = absurd (omega arith)
+
+    pub met-beyond : 2 ^ 62 ≤ word → word ≤ 2 ^ 63 → Met walked cells at (Beyond (at + used))
+    met-beyond l u = record { is = by took }
+      where
+        by : Took least walked (drop at cells) most used word → MetBy walked cells at (Beyond (at + used))
+        by (exact s e) = (word, most - used, e ∙ rw after, l, within u)
+        by (large s m k e) = (m, most - used, e ∙ rw after, omega arith, within u)
+        by (stops s e) = absurd (omega arith)
+
+    pub met-wrong : 2 ^ 63 < word → {r : Refusal} → r ≡ whyOf (leb most (length cells - at)) word → Met walked cells at (Wrong r)
+    met-wrong l {r} g = record { is = by took }
+      where
+        by : Took least walked (drop at cells) most used word → walked ≡ wrong r
+        by (exact s e) = absurd (omega (arith, s))
+        by (large s m k e) = absurd (omega arith)
+        by (stops s e) = e ∙ rw (length-drop at cells, g)
+
+-- ---- the walk, then 16
+module _ {w : Read} {cells : List ℕ} {at : ℕ} {g : Got} (m : Met w cells at g) where
+  told : {k : Got} → g ≡ k → MetBy w cells at k
+  told e = subst (MetBy w cells at) e (m .is)
+
+  pub stood-number : {n next : ℕ} → g ≡ Below n next → Stood (frontOf w) cells at (Number n next)
   unfolding frontOf
-  front-big e = let t = told took' e in record { is = rw (t .2, le-ltb (t .0) (2 ^ 62) (omega (arith, t .1))) }
+  stood-number {n} e = let (q, r, s, l, u) = told e in record { is = (rw (r, lt-ltb n (2 ^ 62) s), l, u) }
 
-  pub front-wrong : {r : Refusal} → g ≡ Wrong r → Stood (front (ruleIn plan p) i (drop at cells)) cells at (Not r)
+  pub stood-large : {next : ℕ} → g ≡ Beyond next → Stood (frontOf w) cells at (Not NumberTooLarge)
   unfolding frontOf
-  front-wrong e = record { is = rw (told took' e) }
+  stood-large e = let (n, q, r, s, u) = told e in record { is = rw (r, le-ltb n (2 ^ 62) s) }
+
+  pub stood-wrong : {r : Refusal} → g ≡ Wrong r → Stood (frontOf w) cells at (Not r)
+  unfolding frontOf
+  stood-wrong e = record { is = rw (told e) }

@@ -12,7 +12,7 @@ use Rattle.grammar.specs.Verdict.{verdict}
 use Rattle.grammar.specs.declared.refusal.Verdict.{Verdict}
 use Rattle.grammar.specs.declared.refusal.Verdict.the-variants.{Accepted}
 use lib.ListN.{length, replicate}
-use Prim.Native.Nat.{_*_, _≤_}
+use Prim.Native.Nat.{ℕ, _*_, _≤_}
 
 pub record Blank (t plan : List ℕ) : Type 0 where
   pub clear : plan ≡ replicate (length plan) 0

@@ -45,8 +45,7 @@ fn lay_row(plan: &[u64], pool: &[u64], start: usize, numbers: &[u64], cells: &mu
     let mut items: usize = 0;
     let mut used: usize = 0;
     while items < numbers.len() {
-        let room = cells.len() - used;
-        match fits(plan, pool, start, numbers[items], room, &mut cells[used..]) {
+        match fits(plan, pool, start, numbers[items], &mut cells[used..]) {
             Fit::Cells(k) => {
                 used += k;
                 items += 1;

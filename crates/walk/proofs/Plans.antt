@@ -24,7 +24,8 @@ use Rattle.grammar.specs.kinds.Cons.{consRule}
 use Rattle.grammar.specs.kinds.Dep.{depRule}
 use Rattle.grammar.specs.kinds.Except.{exceptRule}
 use Rattle.grammar.specs.kinds.Fix.{passRule}
-use Rattle.grammar.proofs.KindLaw.{Fit, fit-some, KindLaw, each-kind}
+use Rattle.grammar.specs.Checks.{Fit}
+use Rattle.grammar.proofs.KindLaw.{fit-some, KindLaw, each-kind}
 use Rattle.grammar.proofs.Kept.{laws, unknown-law}
 use Rattle.walk.specs.Plan.{Walkable, Visits}
 use Rattle.walk.proofs.Nodes.{fix-rule}

@@ -1,13 +1,12 @@
 -- What the code of `read` has found, in the words of its promise.
---   more-cells, more-cells-big        cells left over
---   number-is, number-large, big-is   a number that is asked for, or is not
+--   more-cells, more-cells-large   cells left over
+--   number-is, large-is            a number below 2^62, or not
 --   wrong-is                          the walk's own refusal
 --   found-11, found-is                the walk of an accepted table
 -- Assumes nothing.
-use mathlib.Core.Path.{_≡_, _∙_}
+use mathlib.Core.Path.{_≡_, subst, _∙_}
 use mathlib.Core.List.{List}
 use Prim.Native.Nat.{ℕ, _^_, _≤_, _<_}
-use native.Mathlib.Omega.{arith}
 use lib.ListN.{length, drop-of-length-le}
 use lib.Seq.{drop-cons}
 use borrow.Author.Tests.{lt-ltb, le-ltb}
@@ -20,42 +19,40 @@ use Rattle.grammar.specs.Plan.{ruleIn}
 use Rattle.walk.specs.Walk.{depth}
 use Rattle.walk.specs.Room.{most}
 use Rattle.walk.specs.Run.{Read, run}
-use Rattle.visits.specs.Got.{Took}
-use Rattle.visits.specs.declared.number.Got.{Got}
-use Rattle.visits.specs.declared.number.Got.the-variants.{Number as Read-number, Big, Wrong}
-use Rattle.walk.proofs.Takes.{told}
+use Rattle.checked.specs.Item.{MetBy, Met}
+use Rattle.checked.specs.declared.item.Got.{Got}
+use Rattle.checked.specs.declared.item.Got.the-variants.{Below, Beyond, Wrong}
 use Rattle.checked.specs.Prepared.{Planning, Prepared}
 use Rattle.cases.specs.Read.{found, finds, reads}
 use Rattle.cases.specs.declared.reading.Found.{Found}
 use Rattle.cases.specs.declared.reading.Found.the-variants.{Number, Refused}
-use Rattle.checked.proofs.Walking.{same-grammar}
+use Rattle.checked.proofs.Walking.{same-rules}
 
-module _ {cells : List ℕ} {g : Got} {least : ℕ} {w : Read} (lo : 2 ^ 62 ≤ least) (h : Took least w cells most g) where
-  module _ {n k : ℕ} (e : g ≡ Read-number n k) where
+module _ {cells : List ℕ} {g : Got} {w : Read} (h : Met w cells 0 g) where
+  told : {k : Got} → g ≡ k → MetBy w cells 0 k
+  told e = subst (MetBy w cells 0) e (h .is)
+
+  module _ {n k : ℕ} (e : g ≡ Below n k) where
     pub more-cells : k < length cells → Refused NotACase 0 ≡ found w
     unfolding found
-    more-cells l = rw (told h e .0, drop-cons cells k 0 l)
+    more-cells l = let (q, r, s, a, b) = told e in rw (r, drop-cons cells k 0 l)
 
-    pub number-is : length cells ≤ k → n < 2 ^ 62 → Number n ≡ found w
+    pub number-is : length cells ≤ k → Number n ≡ found w
     unfolding found
-    number-is l s = rw (told h e .0, drop-of-length-le cells {i = k} l, lt-ltb n (2 ^ 62) s)
+    number-is l = let (q, r, s, a, b) = told e in rw (r, drop-of-length-le cells {i = k} l, lt-ltb n (2 ^ 62) s)
 
-    pub number-large : length cells ≤ k → 2 ^ 62 ≤ n → Refused NumberTooLarge 0 ≡ found w
+  module _ {k : ℕ} (e : g ≡ Beyond k) where
+    pub more-cells-large : k < length cells → Refused NotACase 0 ≡ found w
     unfolding found
-    number-large l s = rw (told h e .0, drop-of-length-le cells {i = k} l, le-ltb n (2 ^ 62) s)
+    more-cells-large l = let (n, q, r, s, b) = told e in rw (r, drop-cons cells k 0 l)
 
-  module _ {k : ℕ} (e : g ≡ Big k) where
-    pub more-cells-big : k < length cells → Refused NotACase 0 ≡ found w
+    pub large-is : length cells ≤ k → Refused NumberTooLarge 0 ≡ found w
     unfolding found
-    more-cells-big l = rw (told h e .2, drop-cons cells k 0 l)
-
-    pub big-is : length cells ≤ k → Refused NumberTooLarge 0 ≡ found w
-    unfolding found
-    big-is l = let t = told h e in rw (t .2, drop-of-length-le cells {i = k} l, le-ltb (t .0) (2 ^ 62) (omega (arith, t .1)))
+    large-is l = let (n, q, r, s, b) = told e in rw (r, drop-of-length-le cells {i = k} l, le-ltb n (2 ^ 62) s)
 
   pub wrong-is : {r : Refusal} → g ≡ Wrong r → Refused r 0 ≡ found w
   unfolding found
-  wrong-is e = rw (told h e)
+  wrong-is e = rw (told e)
 
 -- ---- of an accepted table
 module _ {t p plan : List ℕ} (h : Planning t p plan) (i : ℕ) where
@@ -66,7 +63,7 @@ module _ {t p plan : List ℕ} (h : Planning t p plan) (i : ℕ) where
   module _ (l : i < nodes t) where
     pub found-is : (cs : List ℕ) {r : Found} → r ≡ found (run (ruleIn plan p) depth 0 i most cs) → r ≡ finds t p i cs
     unfolding finds
-    found-is cs e = e ∙ rw (lt-ltb i (nodes t) l, same-grammar h)
+    found-is cs e = e ∙ rw (lt-ltb i (nodes t) l, same-rules h)
 
 -- ---- the call
 module _ {t p plan : List ℕ} {v : Verdict} (h : Prepared t p plan v) (i : ℕ) (cs : List ℕ) where

@@ -23,4 +23,4 @@ prepare-spec =
     (λ c. search needs)
     (λ c. prepared-fault _ _ (c .before .before .before .before .before .before .before .before .before .before .if1 .left) (c .before .before .before .before .before .before .before .before .before .if2 .left) (c .before .before .before .before .before .before .before .before .if3 .left) (c .before .before .before .before .before .before .before .if4 .left) (c .before .before .before .before .before .weigh-all .ensures) (c .before .v .given .1))
     (λ c. search needs)
-    (λ c. prepared-cycles _ _ (c .before .before .before .before .before .before .before .before .before .before .before .if1 .left) (c .before .before .before .before .before .before .before .before .before .before .if2 .left) (c .before .before .before .before .before .before .before .before .before .if3 .left) (c .before .before .before .before .before .before .before .before .if4 .left) (c .before .before .before .before .before .before .weigh-all .ensures) (c .before .before .enum-told .given .1) (c .judge .ensures)))
+    (λ c. prepared-cycles _ _ (c .before .before .before .before .before .before .before .before .before .before .before .if1 .left) (c .before .before .before .before .before .before .before .before .before .before .if2 .left) (c .before .before .before .before .before .before .before .before .before .if3 .left) (c .before .before .before .before .before .before .before .before .if4 .left) (c .before .before .before .before .before .before .weigh-all .ensures) (c .before .before .enum-told .given .1) (omega (arith, c .before .before .before .before .before .plan .given, c .before .before .before .before .before .before .before .before .before .before .before .before .before .before .before .pre .short)) (c .judge .ensures)))
