@@ -9,9 +9,17 @@ use Rattle.graph.specs.Ways.{has, via}
 use Rattle.graph.specs.Lowest.{lowest}
 use Rattle.grammar.specs.Refusals.{numberOf}
 use Rattle.grammar.specs.Checks.{row, different, every, total}
-use Rattle.grammar.specs.Rows.{belowRow, natsRow, poolRow, shiftRow, orRow, consRow, secondsRow, further, depRow, exceptRow, fixRow, againRow, rowOf, rowAt}
+use Rattle.grammar.specs.Nodes.{ruleAt, rowAt}
+use Rattle.grammar.specs.kinds.Below.{belowRule}
+use Rattle.grammar.specs.kinds.Nats.{natsRule}
+use Rattle.grammar.specs.kinds.Pool.{poolRule}
+use Rattle.grammar.specs.kinds.Shift.{shiftRule}
+use Rattle.grammar.specs.kinds.Or.{orRule}
+use Rattle.grammar.specs.kinds.Cons.{consRule}
+use Rattle.grammar.specs.kinds.Dep.{depRule}
+use Rattle.grammar.specs.kinds.Except.{exceptRule}
+use Rattle.grammar.specs.kinds.Fix.{passRule}
 use Rattle.grammar.specs.Sizes.{onward, scan}
-use Rattle.grammar.specs.Steps.{steps}
 use Rattle.grammar.specs.Verdict.{leads, unguarded, exceptOnCycle, cycles, settled, verdict, Answer, answer}
 
 -- a table, its pool, and 01's number and node
@@ -81,5 +89,5 @@ tables =
     ∷ []
 
 pub checked : map asked tables ≡ map expected tables
-unfolding asked expected plus times less has via lowest numberOf nodeOf usesA usesB row different every total belowRow natsRow poolRow shiftRow orRow consRow secondsRow further depRow exceptRow fixRow againRow rowOf rowAt onward scan steps leads unguarded exceptOnCycle cycles settled verdict answer
+unfolding asked expected plus times less has via lowest numberOf row different every total belowRule natsRule poolRule shiftRule orRule consRule depRule exceptRule passRule ruleAt rowAt onward scan leads unguarded exceptOnCycle cycles settled verdict answer
 checked = refl

@@ -16,9 +16,17 @@ use Rattle.graph.specs.Ways.{has, via}
 use Rattle.graph.specs.Lowest.{lowest}
 use Rattle.grammar.specs.Refusals.{numberOf}
 use Rattle.grammar.specs.Checks.{row, different, every, total}
-use Rattle.grammar.specs.Rows.{belowRow, natsRow, poolRow, shiftRow, orRow, consRow, secondsRow, further, depRow, exceptRow, fixRow, againRow, rowOf, rowAt}
+use Rattle.grammar.specs.Nodes.{ruleAt, rowAt}
+use Rattle.grammar.specs.kinds.Below.{belowRule}
+use Rattle.grammar.specs.kinds.Nats.{natsRule}
+use Rattle.grammar.specs.kinds.Pool.{poolRule}
+use Rattle.grammar.specs.kinds.Shift.{shiftRule}
+use Rattle.grammar.specs.kinds.Or.{orRule}
+use Rattle.grammar.specs.kinds.Cons.{consRule}
+use Rattle.grammar.specs.kinds.Dep.{depRule}
+use Rattle.grammar.specs.kinds.Except.{exceptRule}
+use Rattle.grammar.specs.kinds.Fix.{passRule}
 use Rattle.grammar.specs.Sizes.{onward, scan, sizes}
-use Rattle.grammar.specs.Steps.{steps}
 use Rattle.grammar.specs.Verdict.{leads, unguarded, exceptOnCycle, cycles, settled, verdict}
 use Rattle.grammar.specs.kinds.Dep.{secondsOf}
 use Rattle.walk.specs.Walk.{shown, walk, cells}
@@ -64,5 +72,5 @@ prints =
     ∷ []
 
 worked : map asked prints ≡ map expected prints
-unfolding plus times less rootBy root Or.split Cons.split Dep.split inTurn Except.split has via lowest numberOf nodeOf usesA usesB row different every total belowRow natsRow poolRow shiftRow orRow consRow secondsRow further depRow exceptRow fixRow againRow rowOf rowAt onward scan sizes steps leads unguarded exceptOnCycle cycles settled verdict secondsOf stepOf raised shown walk cells tallied fitted walks writes run valueFrom wellFormed numeral decimalBy decimal ended words numberOfWord numbersOf lineAt lineText unreadableText refusedText caseText caseRefusedText tableLine poolLine oneAt numbersBy numbersFrom inputOf started caseLine casesOf told printed
+unfolding plus times less rootBy root Or.split Cons.split Dep.split inTurn Except.split has via lowest numberOf row different every total belowRule natsRule poolRule shiftRule orRule consRule depRule exceptRule passRule ruleAt rowAt onward scan sizes leads unguarded exceptOnCycle cycles settled verdict secondsOf shown walk cells tallied fitted walks writes run valueFrom wellFormed numeral decimalBy decimal ended words numberOfWord numbersOf lineAt lineText unreadableText refusedText caseText caseRefusedText tableLine poolLine oneAt numbersBy numbersFrom inputOf started caseLine casesOf told printed
 worked = refl

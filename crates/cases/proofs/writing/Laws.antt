@@ -4,13 +4,14 @@
 --   wrote-11, wrote-not, wrote-case   by what was decided
 --   wrote-refused, wrote-planned   the call
 -- Assumes nothing.
-use mathlib.Core.Path.{_≡_, refl, sym, ap, _∙_}
+use mathlib.Core.Path.{_≡_, refl, sym, subst, ap, _∙_}
 use mathlib.Core.Bool.{Bool, true, false}
 use mathlib.Core.List.{List}
 use Prim.Native.Nat.{ℕ, _≤_, _<_}
 use native.Mathlib.Omega.{arith}
 use lib.ListN.{length}
 use borrow.Author.Tests.{lt-ltb, le-ltb}
+use Rattle.numbers.specs.Size.{Below}
 use Rattle.grammar.specs.Table.{nodes}
 use Rattle.grammar.specs.declared.refusal.Refusal.{Refusal}
 use Rattle.grammar.specs.declared.refusal.Refusal.the-variants.{NoSuchStart}
@@ -24,7 +25,7 @@ use Rattle.checked.specs.Prepared.{Planning, Prepared}
 use Rattle.checked.specs.Fits.{asked, roomFor, fitted, FitOver}
 use Rattle.checked.specs.declared.fits.Fit.{Fit}
 use Rattle.checked.specs.declared.fits.Fit.the-variants.{Cells, Not}
-use Rattle.checked.proofs.Walking.{same-grammar, walkable}
+use Rattle.checked.proofs.Walking.{same-rules, good, walkable}
 use Rattle.checked.proofs.Copying.{over-long}
 use Rattle.checked.proofs.Fitted.{fitted-is}
 use Rattle.checked.proofs.Fitting.{was-asked}
@@ -33,14 +34,14 @@ use Rattle.cases.specs.declared.writing.Written.{Written}
 use Rattle.cases.specs.declared.writing.Written.the-variants.{Done, Refused}
 
 -- ---- the second pass
-module _ {g : Grammar} {i n : ℕ} {old last : List ℕ} {f : Fit} (e : FitOver g i n (length old) old last f) where
+module _ {g : ℕ → Rule} {i n : ℕ} {old last : List ℕ} {f : Fit} (e : FitOver g i n old last f) where
   pub case-done : {k : ℕ} → f ≡ Cells k → WroteCase g i n old last (Done k)
   case-done {k} q = record { is = ap wrote (sym q ∙ e .is); holds = e .holds k q }
 
   pub case-not : Settled g i n (length old) → {r : Refusal} → f ≡ Not r → WroteCase g i n old last (Refused r 0)
   case-not s {r} q = record { is = ap wrote (sym q ∙ e .is); holds = e .kept (s r (sym (e .is) ∙ q)) }
 
-pub case-long : {g : Grammar} {i n : ℕ} {old last : List ℕ} {r : Written} → WroteCase g i n old last r → length last ≡ length old
+pub case-long : {g : ℕ → Rule} {i n : ℕ} {old last : List ℕ} {r : Written} → WroteCase g i n old last r → length last ≡ length old
 case-long {g} {i} {n} {old} {r = Done k} w = over-long (cells (walk g depth 0 i n)) old (w .holds)
 case-long {r = Refused r k} w = ap length (w .holds)
 
@@ -62,17 +63,18 @@ module _ {t p plan : List ℕ} (h : Planning t p plan) (i n : ℕ) (old : List �
         by false u = u
         by true u =
             let a = was-asked (ruleIn plan p i .size) n u in
-            let w = s .fits p n (record { walks = walkable h; node = l; below = a .below }) in
+            let b = subst (Below n) (sym (good h .sized i l)) (a .below) in
+            let w = s .fits p n (record { walks = walkable h; node = l; below = b }) in
             let k : fitted (ruleIn plan p) i n (length old) ≡ Cells (length (w .case)) = fitted-is (ruleIn plan p) i n (length old) (w .case) a (w .shows) (omega (arith, w .few, m)) in
             let z : _≡_ {A = ℕ} 0 1 = cc in
             absurd (omega arith)
 
     walks-is : walks t p i n (length old) ≡ wrote (fitted (ruleIn plan p) i n (length old))
     unfolding walks
-    walks-is = rw (lt-ltb i (nodes t) l, same-grammar h)
+    walks-is = rw (lt-ltb i (nodes t) l, same-rules h)
 
     pub wrote-case : {last : List ℕ} {r : Written} → WroteCase (ruleIn plan p) i n old last r → WrotePlanned t p i n old last r
-    wrote-case w = record { is = w .is ∙ sym walks-is; holds = rw (← same-grammar h) (w .holds) }
+    wrote-case w = record { is = w .is ∙ sym walks-is; holds = rw (← same-rules h) (w .holds) }
 
     pub wrote-not : {f : Fit} → f ≡ fitted (ruleIn plan p) i n (length old) → {r : Refusal} → f ≡ Not r → WrotePlanned t p i n old old (Refused r 0)
     wrote-not e q = record { is = ap wrote (sym q ∙ e) ∙ sym walks-is; holds = refl }
@@ -85,4 +87,4 @@ module _ {t p plan : List ℕ} {v : Verdict} (h : Prepared t p plan v) {i n : �
 
   pub wrote-planned : v ≡ Accepted → {last : List ℕ} {w : Written} → WrotePlanned t p i n old last w → Wrote t p i n old last w
   unfolding writes
-  wrote-ruleIn e g = record { is = rw (← h .is, e) (g .is); holds = g .holds }
+  wrote-planned e g = record { is = rw (← h .is, e) (g .is); holds = g .holds }

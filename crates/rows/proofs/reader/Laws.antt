@@ -75,4 +75,4 @@ module _ {t p plan : List ℕ} {v : Verdict} (h : Prepared t p plan v) (i : ℕ)
 
   pub next-planned : v ≡ Accepted → {s : Stride} → s ≡ stridePlanned t p i row at → s ≡ strideOf t p i row at
   unfolding nextOf
-  next-ruleIn e f = rw (← h .is, e) f
+  next-planned e f = rw (← h .is, e) f

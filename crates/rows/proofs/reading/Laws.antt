@@ -64,4 +64,4 @@ module _ {t p plan : List ℕ} {v : Verdict} (h : Prepared t p plan v) {i : ℕ}
 
   pub got-planned : v ≡ Accepted → {last : List ℕ} {r : Row} → GotRowPlanned t p i cs old last r → GotRow t p i cs old last r
   unfolding readsRow
-  got-ruleIn e g = record { is = rw (← h .is, e) (g .is); holds = g .holds }
+  got-planned e g = record { is = rw (← h .is, e) (g .is); holds = g .holds }

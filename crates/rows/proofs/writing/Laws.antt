@@ -47,4 +47,4 @@ module _ {t p plan : List ℕ} {v : Verdict} (h : Prepared t p plan v) {i : ℕ}
 
   pub row-planned : v ≡ Accepted → {last : List ℕ} {r : Row} → WroteRowPlanned t p i ns old last r → WroteRow t p i ns old last r
   unfolding writesRow
-  row-ruleIn e g = record { is = rw (← h .is, e) (g .is); holds = g .holds }
+  row-planned e g = record { is = rw (← h .is, e) (g .is); holds = g .holds }
