@@ -1,5 +1,6 @@
 -- Demand 2, for every accepted table and every start in it: "the case of a number and the number of a case .. each undoes the other, and nothing else is accepted."
 -- The theorems are about what `write` and `read` answer on every input (`writes`, `reads`: their promises). Each proof is a citation.
+--   case-some           every case has at least one cell
 --   case-written        a number asked for that has a case within the limits: `write` gives it
 --   written-then-read   what `write` gives, `read` finds the number of
 --   read-then-written   what `read` finds the number of, `write` gives back, in any buffer that is long enough
@@ -8,23 +9,24 @@
 --   reads-on, longer-refused, no-beginning   a case followed by anything is read to its end, so `read` refuses it, and no case is the beginning of a different one
 -- The reader of the crate `rows` goes on from there (`case-handed` of `Rattle.rows.proofs.OneList`).
 -- Assumes nothing.
-use mathlib.Core.Path.{_≡_, refl, sym, subst, _∙_}
+use mathlib.Core.Path.{_≡_, refl, sym, subst, ap, _∙_}
 use mathlib.Core.List.{List, [], _∷_, _++_, append-nil}
 use Prim.Native.Nat.{ℕ, _+_, _-_, _≤_, _<_}
 use native.Mathlib.Omega.{arith}
-use lib.ListN.{length}
+use lib.ListN.{length, length-map}
 use Rattle.numbers.specs.Size.{Size, Below}
 use Rattle.grammar.specs.Table.{nodes}
 use Rattle.grammar.specs.Sizes.{sizeAt, sizes, rulesOf}
 use Rattle.grammar.specs.Verdict.{verdict}
 use Rattle.grammar.specs.declared.refusal.Refusal.the-variants.{NotACase}
 use Rattle.grammar.specs.declared.refusal.Verdict.the-variants.{Accepted}
-use Rattle.walk.specs.Walk.{walk, cells, depth}
+use Rattle.walk.specs.Walk.{cell, walk, cells, depth}
 use Rattle.walk.specs.Room.{Case, most}
 use Rattle.walk.specs.Run.{read, run}
 use Rattle.grammar.specs.Law.{Good}
 use Rattle.walk.proofs.Back.{back}
 use Rattle.walk.proofs.Only.{only, prefix-free}
+use Rattle.walk.proofs.Ends.{walk-some}
 use Rattle.cases.specs.Read.{reads}
 use Rattle.cases.specs.Write.{writes}
 use Rattle.cases.specs.declared.reading.Found.the-variants.{Number, Refused}
@@ -48,6 +50,10 @@ module _ (t p : List ℕ) (a : verdict t p ≡ Accepted) (i : ℕ) (l : i < node
   -- ---- what a case is
   case-of : (n room k : ℕ) → writes t p i n room ≡ Done k → Case (rulesOf t p) i n (cells (walk (rulesOf t p) depth 0 i n))
   case-of n room k e = let (q, s, c, f) = writes-done t p a i l n room k e in record { shows = s; few = omega arith }
+
+  -- every case has at least one cell
+  pub case-some : (n : ℕ) (cs : List ℕ) → Asked (rulesOf t p i .size) n → Case (rulesOf t p) i n cs → 0 < length cs
+  case-some n cs q c = omega (arith, walk-some z (nodes t) (rulesOf t p) good depth i n l (below q) 0, ap length (c .shows), length-map cs cell)
 
   pub case-written : (n room : ℕ) (cs : List ℕ) → Asked (rulesOf t p i .size) n → Case (rulesOf t p) i n cs → length cs ≤ room
       → (writes t p i n room ≡ Done (length cs)) × (cells (walk (rulesOf t p) depth 0 i n) ≡ cs)

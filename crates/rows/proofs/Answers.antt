@@ -50,7 +50,7 @@ pub said-by : {w : Row} (last : List ℕ) {xs ys : List ℕ} {m m' c c' : ℕ} �
 said-by last h e f s = (h .0 ∙ cc (e, f), ap (λ (k : ℕ). take k last) (sym f) ∙ h .1 ∙ s)
 
 module _ (t p : List ℕ) (a : verdict t p ≡ Accepted) (i : ℕ) (l : i < nodes t) where
-  abbrev g : Grammar
+  abbrev g : ℕ → Rule
   g = rulesOf t p
 
   writes-row-is : (room : ℕ) (ns : List ℕ) → writesRow t p i room ns ≡ inTurn g i room ns

@@ -7,7 +7,6 @@
 -- Assumes nothing.
 use mathlib.Core.Path.{_≡_, refl, sym, ap, subst, _∙_}
 use mathlib.Core.Bool.{Bool, true, false}
-use mathlib.Core.Logic.{inl}
 use mathlib.Core.List.{List, [], _∷_, _++_, append-assoc}
 use Prim.Native.Nat.{ℕ, zero, suc, _+_, _-_, _^_, _≤_, _<_}
 use native.Mathlib.Nat.{not-suc-le-zero, le-of-suc-le-suc}
@@ -17,26 +16,24 @@ use lib.ListN.{length, drop, length-append}
 use lib.Seq.{drop-append-seam, drop-drop}
 use borrow.Author.Tests.{lt-ltb, ltb-true}
 use Rattle.numbers.specs.Pick.{pick}
+use Rattle.numbers.specs.Size.{Below}
 use Rattle.grammar.specs.Table.{nodes}
 use Rattle.grammar.specs.Verdict.{verdict}
 use Rattle.grammar.specs.declared.refusal.Refusal.{Refusal}
 use Rattle.grammar.specs.declared.refusal.Refusal.the-variants.{NumberTooLarge}
 use Rattle.grammar.specs.declared.refusal.Verdict.the-variants.{Accepted}
 use Rattle.grammar.specs.Rule.{Rule}
-use Rattle.grammar.specs.Sizes.{rulesOf}
+use Rattle.grammar.specs.Sizes.{sizeAt, sizes, rulesOf}
 use Rattle.walk.specs.Walk.{walk, cells, depth}
 use Rattle.walk.specs.Room.{Case, most}
 use Rattle.walk.specs.Run.{Read, read, wrong, run}
-use Rattle.walk.proofs.Back.{shifted-none}
 use Rattle.walk.proofs.Only.{only}
-use Rattle.walk.proofs.Strides.{case-some}
 use Rattle.checked.specs.Fits.{Asked, fitted}
 use Rattle.checked.specs.Item.{Front, number, refused, frontOf, front}
 use Rattle.checked.specs.declared.fits.Fit.the-variants.{Cells}
-use Rattle.checked.proofs.Walking.{good-of}
 use Rattle.checked.proofs.Fitted.{cells-map, fitted-is, fitted-cells}
-use Rattle.cases.proofs.Meaning.{accepted-passes, accepted-checked}
-use Rattle.cases.proofs.BothSides.{reads-on}
+use Rattle.cases.proofs.Meaning.{accepted-checked}
+use Rattle.cases.proofs.BothSides.{case-some, reads-on}
 use Rattle.rows.specs.WriteRow.{onward, inTurn, rowOf}
 use Rattle.rows.specs.ReadRow.{Gathered, all, stopped, after, gather, full}
 use Rattle.rows.specs.ReadRow as Rows-read
@@ -50,16 +47,12 @@ use Rattle.rows.proofs.Gathering.{gather-none, gather-full, gather-more
 use Rattle.rows.proofs.reader.Laws.{next-some}
 
 -- ---- one case for a number
-pub same-case : {g : Grammar} {i n : ℕ} {cs ds : List ℕ} → Case g i n cs → Case g i n ds → cs ≡ ds
+pub same-case : {g : ℕ → Rule} {i n : ℕ} {cs ds : List ℕ} → Case g i n cs → Case g i n ds → cs ≡ ds
 same-case {g} {i} {n} {cs} {ds} c d = sym (cells-map cs) ∙ ap cells (sym (c .shows) ∙ d .shows) ∙ cells-map ds
 
-pub cases-same : {g : Grammar} {i : ℕ} {ns : List ℕ} {css dss : List (List ℕ)} → Cut g i ns css → Cut g i ns dss → css ≡ dss
+pub cases-same : {g : ℕ → Rule} {i : ℕ} {ns : List ℕ} {css dss : List (List ℕ)} → Cut g i ns css → Cut g i ns dss → css ≡ dss
 cases-same none none = refl
 cases-same (item q c k) (item q' c' k') = cc (same-case c c', cases-same k k')
-
--- a cut row has cases of one cell and more
-some-cells : {g : Grammar} {i n : ℕ} {cs : List ℕ} (rest : List ℕ) → Case g i n cs → 0 < length (cs ++ rest)
-some-cells {g} {i} {n} {cs} rest c = omega (arith, case-some g i n cs c, length-append cs rest)
 
 -- ---- answers turned round
 front-number : (w : Read) {n : ℕ} {rest : List ℕ} → frontOf w ≡ number n rest → (q : ℕ) × (w ≡ read n q rest) × (n < 2 ^ 62)
@@ -103,8 +96,12 @@ gathered-fits g i (suc room) (c ∷ cs) {ns} e =
     omega (arith, ap length w, gathered-fits g i room ds v)
 
 module _ (t p : List ℕ) (a : verdict t p ≡ Accepted) (i : ℕ) (l : i < nodes t) where
-  abbrev g : Grammar
+  abbrev g : ℕ → Rule
   g = rulesOf t p
+
+  -- a cut row has cases of one cell and more
+  some-cells : {n : ℕ} {cs : List ℕ} (rest : List ℕ) → Asked (g i .size) n → Case g i n cs → 0 < length (cs ++ rest)
+  some-cells {n} {cs} rest q c = omega (arith, case-some t p a i l n cs q c, length-append cs rest)
 
   -- ---- a case at the front
   pub front-case : {n : ℕ} {cs : List ℕ} → Asked (g i .size) n → Case g i n cs → (rest : List ℕ) → front g i (cs ++ rest) ≡ number n rest
@@ -117,8 +114,9 @@ module _ (t p : List ℕ) (a : verdict t p ≡ Accepted) (i : ℕ) (l : i < node
   pub case-front : {n : ℕ} {cs rest : List ℕ} → front g i cs ≡ number n rest → (ws : List ℕ) × Asked (g i .size) n × Case g i n ws × (cs ≡ ws ++ rest)
   case-front {n} {cs} {rest} e =
       let (q, r, s) = front-number (run g depth 0 i most cs) e in
-      let (b, (ws, shows, stands, room)) = only g (nodes t) (good-of t p (accepted-passes t p a) (accepted-checked t p a)) depth i l 0 most cs (inl refl) r in
-      (ws, record { below = b; small = s }, record { shows = shows; few = omega arith }, stands ∙ rw shifted-none)
+      let good = accepted-checked t p a .good in
+      let (b, w) = only (sizeAt (sizes t p)) (nodes t) g good depth 0 i l most cs r in
+      (w .ws, record { below = subst (Below n) (good .sized i l) b; small = s }, record { shows = w .shows; few = omega (arith, w .room) }, w .stands)
 
   -- ---- writing
   pub turns-cut : {ns : List ℕ} {css : List (List ℕ)} (room : ℕ) → Cut g i ns css → length (joined css) ≤ room
@@ -148,7 +146,7 @@ module _ (t p : List ℕ) (a : verdict t p ≡ Accepted) (i : ℕ) (l : i < node
   gather-cut room none f = gather-none g i room
   gather-cut zero (item q c k) f = absurd (not-suc-le-zero f)
   gather-cut (suc room) (item {n} {ns} {cs} {css} q c k) f =
-      rw (gather-more g i room (cs ++ joined css) (some-cells (joined css) c), front-case q c (joined css), gather-cut room k (le-of-suc-le-suc f))
+      rw (gather-more g i room (cs ++ joined css) (some-cells (joined css) q c), front-case q c (joined css), gather-cut room k (le-of-suc-le-suc f))
 
   cut-none : (room : ℕ) (ns : List ℕ) → gather g i room [] ≡ all ns → (css : List (List ℕ)) × Cut g i ns css × (joined css ≡ [])
   unfolding joined
@@ -177,7 +175,7 @@ module _ (t p : List ℕ) (a : verdict t p ≡ Accepted) (i : ℕ) (l : i < node
   counted n xs ys = let s : length (xs ++ ys) - length ys ≡ length xs = omega (arith, length-append xs ys) in rw s
 
   next-case : (row : List ℕ) (at : ℕ) {n : ℕ} {cs : List ℕ} (rest : List ℕ) → Asked (g i .size) n → Case g i n cs → drop at row ≡ cs ++ rest → nextOf t p i row at ≡ Item n (length cs)
-  next-case row at {n} {cs} rest q c e = next-is row at ∙ rw (e, next-some g i (cs ++ rest) (some-cells rest c), front-case q c rest) (counted n cs rest)
+  next-case row at {n} {cs} rest q c e = next-is row at ∙ rw (e, next-some g i (cs ++ rest) (some-cells rest q c), front-case q c rest) (counted n cs rest)
 
   pub stride-case : {n : ℕ} {cs : List ℕ} → Asked (g i .size) n → Case g i n cs → (before rest : List ℕ)
       → strideOf t p i (before ++ (cs ++ rest)) (length before) ≡ record { answer = Item n (length cs); at = length before + length cs }
@@ -211,7 +209,7 @@ module _ (t p : List ℕ) (a : verdict t p ≡ Accepted) (i : ℕ) (l : i < node
   stopped-by room cs f some again (number n ds) u v =
       let (j, w, up) = after-stopped n (gather g i room ds) v in
       let (ws, q, one, same) = case-front u in
-      let fewer : length ds ≤ room = omega (arith, case-some g i n ws one, ap length same, length-append ws ds) in
+      let fewer : length ds ≤ room = omega (arith, case-some t p a i l n ws q one, ap length same, length-append ws ds) in
       let (ns, css, rest, cut, whole, many, last) = again ds j fewer w in
       (n ∷ ns, ws ∷ css, rest, item q one cut, same ∙ ap (λ (xs : List ℕ). ws ++ xs) whole ∙ sym (append-assoc ws (joined css) rest), omega arith, last)
 

@@ -63,8 +63,8 @@ blank = 7 ∷ 7 ∷ 7 ∷ 7 ∷ []
 -- what the definitions give: L at 0 is 0 0, L at 1 is 1 0 0 0, and 1 0 0 0 is number 1; the row of 0, 0 is 0 0 0 0
 computed :
     (writes L [] 5 0 4 ≡ Done 2)
-    × (over (Walk.cells (walk (rulesOf L []) 200 5 0)) blank ≡ 0 ∷ 0 ∷ 7 ∷ 7 ∷ [])
-    × (over (Walk.cells (walk (rulesOf L []) 200 5 1)) blank ≡ 1 ∷ 0 ∷ 0 ∷ 0 ∷ [])
+    × (over (Walk.cells (walk (rulesOf L []) 200 0 5 0)) blank ≡ 0 ∷ 0 ∷ 7 ∷ 7 ∷ [])
+    × (over (Walk.cells (walk (rulesOf L []) 200 0 5 1)) blank ≡ 1 ∷ 0 ∷ 0 ∷ 0 ∷ [])
     × (writes L [] 5 1 4 ≡ Done 4)
     × (reads L [] 5 (1 ∷ 0 ∷ 0 ∷ 0 ∷ []) ≡ Number 1)
     × (writesRow L [] 5 4 (0 ∷ 0 ∷ []) ≡ Row-done 2 4)

@@ -35,7 +35,7 @@ use Rattle.rows.proofs.Cuts.{cut-same, stride-case}
 use Rattle.rows.proofs.Answers.{wrote-cut, cut-wrote, got-cut, cut-got, got-stopped, said-by, asks-end, asks-refused}
 
 module _ (t p : List ℕ) (a : verdict t p ≡ Accepted) (i : ℕ) (l : i < nodes t) where
-  abbrev g : Grammar
+  abbrev g : ℕ → Rule
   g = rulesOf t p
 
   -- ---- 1. exactly that list

@@ -20,7 +20,7 @@ use Rattle.grammar.specs.declared.refusal.Verdict.the-variants.{Accepted, Refus
 use Rattle.grammar.specs.Sizes.{rulesOf}
 use Rattle.walk.specs.Filled.{over}
 use Rattle.walk.proofs.Fills.{over-front}
-use Rattle.walk.proofs.Strides.{case-some}
+use Rattle.cases.proofs.BothSides.{case-some}
 use Rattle.checked.specs.Item.{Front, number, refused, front}
 use Rattle.rows.specs.Row.{judged, leaves}
 use Rattle.rows.specs.WriteRow.{inTurn, rowOf, writesRowPlanned, writesRow, WroteRow}
@@ -101,7 +101,7 @@ module _ (t p : List ℕ) (i n k : ℕ) where
           let s : length (c ∷ cs) - length rest ≡ k = cc in
           let (ws, q, one, same) = case-front t p a i l u in
           let long = ap length same ∙ length-append ws rest in
-          (omega arith, omega (arith, case-some (rulesOf t p) i m ws one), omega arith)
+          (omega arith, omega (arith, case-some t p a i l m ws q one), omega arith)
       by (refused r) u v = let z : _≡_ {A = ℕ} 0 1 = cc in absurd (omega arith)
 
   module _ (row : List ℕ) (at : ℕ) where

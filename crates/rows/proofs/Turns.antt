@@ -106,9 +106,12 @@ module _ (g : ℕ → Rule) (i : ℕ) where
     pub laying-done : length ns ≤ j → RowOver g i ns old now (Done j used)
     laying-done l = record { is = tallying-done (h .tally) l; long = laying-long; holds = λ m c x. h .holds ∙ rw (take-all j ns l) }
 
-    module _ {part last : List ℕ} (l : j < length ns) (p : part ≡ take (length now - used) (drop used now)) {f : Fit} (e : FitOver g i (getD ns j 0) (length now - used) part last f) where
+    module _ {part last : List ℕ} (l : j < length ns) (p : part ≡ take (length now - used) (drop used now)) {f : Fit} (e : FitOver g i (getD ns j 0) part last f) where
+      part-long : length part ≡ length now - used
+      part-long = ap length (p ∙ part-old used now) ∙ length-drop used now
+
       fit-is : f ≡ fitted g i (getD ns j 0) (length old - used)
-      fit-is = let s : length now - used ≡ length old - used = omega (arith, laying-long) in e .is ∙ rw s
+      fit-is = let s : length part ≡ length old - used = omega (arith, laying-long, part-long) in e .is ∙ rw s
 
       pub laying-fits : {k : ℕ} → f ≡ Cells k → used + k ≤ length now
       laying-fits q = omega (arith, tallying-fits (h .tally) l fit-is q, h .tally .fits, laying-long)
@@ -124,7 +127,7 @@ module _ (g : ℕ → Rule) (i : ℕ) where
 
       pub laying-more : {k : ℕ} → f ≡ Cells k → Laying ns old (take used now ++ (last ++ drop (length now - used) (drop used now))) (j + 1) (used + k)
       laying-more {k} q =
-          let (_, s, c, w) = fitted-cells g i (getD ns j 0) (length now - used) k (sym (e .is) ∙ q) in
+          let (_, s, c, w) = fitted-cells g i (getD ns j 0) (length part) k (sym (e .is) ∙ q) in
           let n : used ≡ min (length (rowOf g i (take j ns))) (length old) = omega (arith, h .many, h .tally .fits) in
           record {
             tally = tallying-more (h .tally) l fit-is q;

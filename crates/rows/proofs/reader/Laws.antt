@@ -21,7 +21,7 @@ use Rattle.checked.specs.Prepared.{Planning, Prepared}
 use Rattle.checked.specs.Item.{front, Stood}
 use Rattle.checked.specs.declared.item.Item.{Item as Standing}
 use Rattle.checked.specs.declared.item.Item.the-variants.{Number, Not}
-use Rattle.checked.proofs.Walking.{same-grammar}
+use Rattle.checked.proofs.Walking.{same-rules}
 use Rattle.rows.specs.Reader.{handed, next, nextPlanned, nextOf, afterOf, strideOf, stridePlanned}
 use Rattle.rows.specs.declared.reader.Next.{Next}
 use Rattle.rows.specs.declared.reader.Next.the-variants.{Item, End, Refused}
@@ -45,7 +45,7 @@ module _ {t p plan : List ℕ} (h : Planning t p plan) (i : ℕ) (row : List ℕ
   module _ (l : i < nodes t) where
     planned-is : nextPlanned t p i row at ≡ next (ruleIn plan p) i (drop at row)
     unfolding nextPlanned
-    planned-is = rw (lt-ltb i (nodes t) l, same-grammar h)
+    planned-is = rw (lt-ltb i (nodes t) l, same-rules h)
 
     pub next-end : length row ≤ at → record { answer = End; at = at } ≡ stridePlanned t p i row at
     unfolding next

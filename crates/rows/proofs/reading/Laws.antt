@@ -18,7 +18,7 @@ use Rattle.grammar.specs.Plan.{ruleIn}
 use Rattle.walk.specs.Filled.{over}
 use Rattle.checked.specs.Prepared.{Planning, Prepared}
 use Rattle.checked.specs.Kept.{Kept}
-use Rattle.checked.proofs.Walking.{same-grammar}
+use Rattle.checked.proofs.Walking.{same-rules}
 use Rattle.rows.specs.ReadRow.{Gathered, all, stopped, gather, answered, gotten, Gathers, readsRowPlanned, readsRow, GotRow, GotRowPlanned}
 use Rattle.rows.specs.declared.answer.Row.{Row}
 use Rattle.rows.specs.declared.answer.Row.the-variants.{Done, Refused}
@@ -37,7 +37,7 @@ module _ {t p plan : List ℕ} (h : Planning t p plan) (i : ℕ) (cs old : List 
   module _ (l : i < nodes t) {r : Row} (e : r ≡ answered (length cs) (gather (ruleIn plan p) i (length old) cs)) where
     got-is : readsRowPlanned t p i (length old) cs ≡ r
     unfolding readsRowPlanned
-    got-is = rw (lt-ltb i (nodes t) l, e, same-grammar h)
+    got-is = rw (lt-ltb i (nodes t) l, e, same-rules h)
 
     pub got-not : {x : Refusal} {k item : ℕ} → r ≡ Refused x k item → GotRowPlanned t p i cs old old (Refused x k item)
     got-not q = record { is = sym (got-is ∙ q); holds = refl }
@@ -54,7 +54,7 @@ module _ {t p plan : List ℕ} (h : Planning t p plan) (i : ℕ) (cs old : List 
           record { old = first; holds = g; many = ap (λ (x : Gathered). length (gotten x)) (a .is) ∙ s; fits = omega (arith, gathered-fits (ruleIn plan p) i (length old) cs (a .is), s) }
 
       pub got-numbers : {last : List ℕ} → last ≡ over (gotten (gather (ruleIn plan p) i (length old) cs)) old → GotRowPlanned t p i cs old last (Done m c)
-      got-numbers f = record { is = sym (got-is ∙ q); holds = rw (← same-grammar h) f }
+      got-numbers f = record { is = sym (got-is ∙ q); holds = rw (← same-rules h) f }
 
 -- ---- the call
 module _ {t p plan : List ℕ} {v : Verdict} (h : Prepared t p plan v) {i : ℕ} {cs old : List ℕ} where

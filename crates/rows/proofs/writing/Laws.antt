@@ -15,7 +15,7 @@ use Rattle.grammar.specs.declared.refusal.Verdict.{Verdict}
 use Rattle.grammar.specs.declared.refusal.Verdict.the-variants.{Accepted, Refused as Refuses}
 use Rattle.grammar.specs.Plan.{ruleIn}
 use Rattle.checked.specs.Prepared.{Planning, Prepared}
-use Rattle.checked.proofs.Walking.{same-grammar}
+use Rattle.checked.proofs.Walking.{same-rules}
 use Rattle.rows.specs.WriteRow.{inTurn, RowOver, writesRowPlanned, writesRow, WroteRow, WroteRowPlanned}
 use Rattle.rows.specs.declared.answer.Row.{Row}
 use Rattle.rows.specs.declared.answer.Row.the-variants.{Done, Refused}
@@ -28,7 +28,7 @@ module _ {t p plan : List ℕ} (h : Planning t p plan) (i : ℕ) (ns old : List 
   module _ (l : i < nodes t) {r : Row} (e : r ≡ inTurn (ruleIn plan p) i (length old) ns) where
     row-is : writesRowPlanned t p i (length old) ns ≡ r
     unfolding writesRowPlanned
-    row-is = rw (lt-ltb i (nodes t) l, e, same-grammar h)
+    row-is = rw (lt-ltb i (nodes t) l, e, same-rules h)
 
     pub row-not : {x : Refusal} {k item : ℕ} → r ≡ Refused x k item → WroteRowPlanned t p i ns old old (Refused x k item)
     row-not q = record { is = sym (row-is ∙ q); holds = refl }
@@ -37,7 +37,7 @@ module _ {t p plan : List ℕ} (h : Planning t p plan) (i : ℕ) (ns old : List 
     pub row-done : {m c : ℕ} → r ≡ Done m c → {last : List ℕ} {x : Row} → RowOver (ruleIn plan p) i ns old last x → WroteRowPlanned t p i ns old last x
     row-done {m} {c} q {x = x} f =
         let d : x ≡ Done m c = f .is ∙ sym e ∙ q in
-        rw d (record { is = sym (row-is ∙ q); holds = rw (← same-grammar h) (f .holds m c d) })
+        rw d (record { is = sym (row-is ∙ q); holds = rw (← same-rules h) (f .holds m c d) })
 
 -- ---- the call
 module _ {t p plan : List ℕ} {v : Verdict} (h : Prepared t p plan v) {i : ℕ} {ns old : List ℕ} where

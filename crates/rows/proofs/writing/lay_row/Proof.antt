@@ -23,7 +23,6 @@ lay-row-spec =
     Inv-loop
     μ-loop
     (λ c. laying-none _ _ _ _)
-    (λ c. laying-within _ _ (c .before .loop .inv))
     (λ c. search needs)
     (λ c. search needs)
     (λ c. omega (arith, laying-within _ _ (c .before .before .loop .inv), laying-long _ _ (c .before .before .loop .inv), c .before .before .before .before .before .before .before .good))
