@@ -29,7 +29,8 @@ use Rattle.grammar.specs.kinds.Fix.{passRule}
 use Rattle.grammar.specs.Sizes.{onward, scan, sizes}
 use Rattle.grammar.specs.Verdict.{leads, unguarded, exceptOnCycle, cycles, settled, verdict}
 use Rattle.grammar.specs.kinds.Dep.{secondsOf}
-use Rattle.walk.specs.Run.{cellOf, follow, run}
+use Rattle.walk.specs.Run.{cellOf, follow}
+use Rattle.walk.specs.Run.{run as reading}
 use Rattle.grammar.specs.kinds.Pool.{placeOf}
 use Rattle.walk.specs.Walk.{shown, walk, cells}
 use Rattle.walk.specs.Room.{tallied}
@@ -78,5 +79,5 @@ prints =
     ∷ []
 
 worked : map asked prints ≡ map expected prints
-unfolding plus times less rootBy root Or.split Or.join Cons.split Cons.join inTurn Dep.split Dep.join Dep.total Except.split Except.join has via lowest numberOf row different every total belowRule natsRule poolRule shiftRule orRule consRule depRule exceptRule passRule ruleAt rowAt onward scan sizes leads unguarded exceptOnCycle cycles settled verdict secondsOf cellOf placeOf follow run shown walk cells tallied fitted frontOf walks writes found finds reads writesRowPlanned writesRow Written.inTurn Written.rowOf gather readsRowPlanned readsRow next nextPlanned nextOf run valueFrom wellFormed numeral decimalBy decimal ended words numberOfWord numbersOf lineAt unreadableText numberText numberLine itemText refusedText refusedLine refusedItem itemsText spaced cellsText readable wordSize same checkText readText writeText rowText asksBy asksText caseText askText wayText callOf callText lineText lineSize after lineOf tableAt saidAt nextAt nextKnown printedBy printed
+unfolding plus times less rootBy root Or.split Or.join Cons.split Cons.join inTurn Dep.split Dep.join Dep.total Except.split Except.join has via lowest numberOf row different every total belowRule natsRule poolRule shiftRule orRule consRule depRule exceptRule passRule ruleAt rowAt onward scan sizes leads unguarded exceptOnCycle cycles settled verdict secondsOf cellOf placeOf follow reading shown walk cells tallied fitted frontOf walks writes found finds reads writesRowPlanned writesRow Written.inTurn Written.rowOf gather readsRowPlanned readsRow next nextPlanned nextOf run valueFrom wellFormed numeral decimalBy decimal ended words numberOfWord numbersOf lineAt unreadableText numberText numberLine itemText refusedText refusedLine refusedItem itemsText spaced cellsText readable wordSize same checkText readText writeText rowText asksBy asksText caseText askText wayText callOf callText lineText lineSize after lineOf tableAt saidAt nextAt nextKnown printedBy printed
 worked = refl
