@@ -30,7 +30,7 @@ use Rattle.grammar.specs.kinds.Cons.{consRule}
 use Rattle.grammar.specs.kinds.Except.{exceptRule}
 use Rattle.grammar.specs.kinds.Fix.{passRule}
 use Rattle.grammar.proofs.Tests.{and-left, and-right}
-use Rattle.walk.specs.Plan.{Walkable, Reading, Raised}
+use Rattle.walk.specs.Plan.{Reading, Raised}
 
 -- a word of a size that is not 0
 pub some-word : (w : ℕ) → Some (sizeOf w) → 0 < w
