@@ -1,6 +1,6 @@
 -- A writing walk over a buffer that is its own room, put together from those of its parts.
---   lent-long, lent-most   the part of a buffer that is lent on
---   laid-deep, laid-full   refused: what the buffer holds is not said
+--   lent-long, lent-most, lent-set   the part of a buffer that is lent on
+--   laid-deep, laid-full, laid-none  refused: what the buffer holds is not said
 --   laid-one, laid-tag     a cell; a cell and then a walk over what is left
 --   laid-stops, laid-two   a walk that stops; one walk and then another over what is left
 -- Assumes nothing.

@@ -1,5 +1,6 @@
 -- A node of a plan, where its kind word is known: its rule, and what its checks show. A dep's are in `Deps`.
---   ..-rule       the rule of a node of each kind, by the plan's sizes
+--   ..-rule       the rule of a node of each kind, by the plan's sizes; rule-by, checks-by for any kind word
+--   Lower         both parts are before the node; first-reads, second-reads, parts-.. of such parts
 --   in-plan       a node's words are in the plan
 --   Unlike, known there is no other kind
 --   raised-..     what stands under a shift

@@ -2,9 +2,9 @@
 --   deep-taken                  no depth left
 --   tree-taken                  a node that reads no part
 --   pass-taken                  a part alone
---   part-stops, part-then       a part, and what its number leads to
---   tag-stops, tag-then         a tag, and what it leads to
---   one-..                      a part after a tag
+--   tag-stops, tag-fails        a tag that is no number, or leads nowhere
+--   one-..                      a tag, and the part that it leads to
+--   part-stops                  a first part that is not read
 --   except-..                   a part without one of its numbers
 --   two-..                      a part, and a second one that may depend on its number
 -- Assumes nothing.

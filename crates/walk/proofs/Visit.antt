@@ -1,7 +1,8 @@
 -- A visit, over any rules: what it shows, by its items; and its parts may be visited.
 --   walk-..     what a visit shows
+--   visited     a node that may be visited is one of the plan
 --   Next        a part of a visit: it may be visited, at a number that is at most one more
---   nexts       of each part of a visit
+--   next-by     of each part of a visit
 -- Assumes nothing.
 use mathlib.Core.Path.{_≡_, refl, subst, ap, _∙_}
 use mathlib.Core.List.{List, [], _∷_, _++_, append-nil}
