@@ -48,13 +48,15 @@ module _ {plan p : List ℕ} {n left t : ℕ} (up : ℕ) {long : ℕ} (e : 2 * l
     (h : (n + left ≤ 2 ^ 62 + 200) × (up + left * 2 ^ 32 ≤ 200 * 2 ^ 32) × (left ≤ 200) × (long ≤ most)) where
   pub lay-part : {q m : ℕ} → Next plan p n q m
       → (2 * (left - 1) < t)
-      × ((Visits plan p q m × Raised plan q 0) × ((m + (left - 1) ≤ 2 ^ 62 + 200) × (0 + (left - 1) * 2 ^ 32 ≤ 200 * 2 ^ 32) × (left - 1 ≤ 200) × (long ≤ most)))
+      × ((Visits plan p q m × Raised plan q 0)
+      × ((m + (left - 1) ≤ 2 ^ 62 + 200) × (0 + (left - 1) * 2 ^ 32 ≤ 200 * 2 ^ 32) × (left - 1 ≤ 200) × (long ≤ most)))
   lay-part {q} k = (omega arith, ((k .visits, raised-zero plan q), (omega (arith, k .near, h .0), omega (arith, h .2), omega (arith, h .2), h .3)))
 
   -- under a shift by b
   pub lay-shift : {q m b : ℕ} → Next plan p n q m → Raised plan q (up + b) → b ≤ 2 ^ 32
       → (2 * (left - 1) < t)
-      × ((Visits plan p q m × Raised plan q (up + b)) × ((m + (left - 1) ≤ 2 ^ 62 + 200) × (up + b + (left - 1) * 2 ^ 32 ≤ 200 * 2 ^ 32) × (left - 1 ≤ 200) × (long ≤ most)))
+      × ((Visits plan p q m × Raised plan q (up + b))
+      × ((m + (left - 1) ≤ 2 ^ 62 + 200) × (up + b + (left - 1) * 2 ^ 32 ≤ 200 * 2 ^ 32) × (left - 1 ≤ 200) × (long ≤ most)))
   lay-shift k s l = (omega arith, ((k .visits, s), (omega (arith, k .near, h .0), omega (arith, h .1), omega (arith, h .2), h .3)))
 
   pub lay-tagged : {q m : ℕ} → Next plan p n q m

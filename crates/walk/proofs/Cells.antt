@@ -1,8 +1,8 @@
 -- What a word of a reading walk says, and what is read where a cell or a part comes first.
---   Seen, seen               what a word says that is no refusal
+--   Seen, seen-row           what a word says that is no refusal
 --   restated                 what is read is the same, and a bound may be lowered
---   taken-done, -number, -fails   nothing more is read: a number, or no case
---   cell-ends, -less, -found a cell comes first
+--   taken-done, -large, -number, -fails   nothing more is read: a number, or no case
+--   cell-ends, -less, -found, -then       a cell comes first
 --   first-stops, first-then  something comes first that has been read
 -- Assumes nothing.
 use mathlib.Core.Path.{_≡_, refl, sym, ap, subst, _∙_}

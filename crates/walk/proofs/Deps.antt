@@ -4,24 +4,23 @@
 --   second-of, second-place, chosen-reads, dep-least   of the second that number x of the first part chooses
 -- Assumes nothing.
 use mathlib.Core.Path.{_≡_, refl, sym, ap, _∙_}
-use mathlib.Core.Bool.{true, false, not, _||_, false≢true}
+use mathlib.Core.Bool.{true, not, _||_, false≢true}
 use mathlib.Core.List.{List}
-use Prim.Native.Nat.{ℕ, _+_, _*_, _^_, _≤_, _<_}
+use Prim.Native.Nat.{ℕ, _+_, _^_, _≤_, _<_}
 use native.Mathlib.Nat.{add-zero}
 use native.Mathlib.Omega.{arith}
 use lib.Dec.{ltb}
 use lib.ListN.{length, getD, take, drop}
-use borrow.Author.Tests.{ltb-true, leb-true}
-use Rattle.numbers.specs.Size.{Size, finite, endless, Below, Some, sizeOf}
+use borrow.Author.Tests.{leb-true}
+use Rattle.numbers.specs.Size.{Size, finite, endless, Below, sizeOf}
 use Rattle.numbers.specs.Dep
 use Rattle.numbers.proofs.size.Laws.{by-size}
 use Rattle.numbers.proofs.dep.Laws as Deps
 use Rattle.grammar.specs.Checks.{few, fits, isEndless, allFinite, allEndless, allLower, total}
 use Rattle.grammar.specs.Checks.{count as countOf}
-use Rattle.grammar.specs.Kind.{before}
 use Rattle.grammar.specs.Plan.{sizeIn, kindWord, aWord, bWord, ruleIn}
 use Rattle.grammar.specs.Seconds.{firsts, headSize, DepIn}
-use Rattle.grammar.specs.kinds.Dep.{counts, secondsOf, depRule}
+use Rattle.grammar.specs.kinds.Dep.{secondsOf, depRule}
 use Rattle.grammar.proofs.Tests.{finite-word, endless-word}
 use Rattle.grammar.proofs.Runs.{run-long, run-at, run-fails, lower-run, finite-run}
 use Rattle.grammar.proofs.Seconds.{seconds-firsts, seconds-second, finite-total, else-finite, else-endless}

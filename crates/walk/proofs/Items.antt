@@ -2,7 +2,7 @@
 --   ..-items, or-first, or-second   of each kind
 --   pool-place, dep-place           the word that a pool, or a dep's second, is found by
 -- Assumes nothing.
-use mathlib.Core.Path.{_≡_, refl, sym, ap, subst, _∙_}
+use mathlib.Core.Path.{_≡_, sym, ap, subst, _∙_}
 use mathlib.Core.List.{List, [], _∷_}
 use Prim.Native.Nat.{ℕ, _+_, _≤_, _<_}
 use native.Mathlib.Omega.{arith}
@@ -15,7 +15,7 @@ use Rattle.numbers.specs.Except
 use Rattle.numbers.specs.declared.cons.Pair.{Pair}
 use Rattle.numbers.specs.declared.or.Part.{Part}
 use Rattle.numbers.specs.declared.or.Part.the-variants.{First, Second}
-use Rattle.grammar.specs.Rule.{Item, own, part, Rule}
+use Rattle.grammar.specs.Rule.{own, part, Rule}
 use Rattle.grammar.specs.Plan.{sizeIn, kindWord, aWord, bWord, ruleIn}
 use Rattle.grammar.specs.Seconds.{firsts}
 use Rattle.grammar.specs.kinds.Below.{belowRule}
@@ -31,7 +31,7 @@ use Rattle.grammar.proofs.Runs.{run-at}
 use Rattle.walk.specs.Plan.{Visits}
 use Rattle.walk.proofs.Visit.{visited, next-by}
 use Rattle.walk.proofs.Nodes.{below-rule, nats-rule, pool-rule, pool-in, shift-rule, or-rule, cons-rule, except-rule, fix-rule, again-rule}
-use Rattle.walk.proofs.Deps.{dep-in, dep-rule, first-of, second-of, second-place}
+use Rattle.walk.proofs.Deps.{dep-rule, first-of, second-of, second-place}
 
 module _ {plan p : List ℕ} {i n : ℕ} (v : Visits plan p i n) where
   items-of : {r : Rule} → ruleIn plan p i ≡ r → ruleIn plan p i .items n ≡ r .items n

@@ -1,14 +1,13 @@
 -- A writing walk over a buffer that is its own room, put together from those of its parts.
---   lent-long, lent-most   the part of a buffer that is lent on
---   laid-deep, laid-full   refused: what the buffer holds is not said
+--   lent-long, lent-most, lent-set   the part of a buffer that is lent on
+--   laid-deep, laid-full, laid-none  refused: what the buffer holds is not said
 --   laid-one, laid-tag     a cell; a cell and then a walk over what is left
 --   laid-stops, laid-two   a walk that stops; one walk and then another over what is left
 -- Assumes nothing.
 use mathlib.Core.Path.{_≡_, refl, sym, ap, subst, _∙_}
 use mathlib.Core.Logic.{⊎-elim}
 use mathlib.Core.List.{List, [], _∷_, _++_}
-use Prim.Native.Nat.{ℕ, _+_, _-_, _^_, _≤_, _<_, min}
-use native.Mathlib.Nat.{not-suc-le-zero}
+use Prim.Native.Nat.{ℕ, _-_, _^_, _≤_, _<_, min}
 use native.Mathlib.Omega.{arith}
 use lib.ListN.{length, take, drop, set, length-set, length-append, length-take, length-drop}
 use Rattle.walk.specs.Walk.{Event, cell, cells}

@@ -4,6 +4,7 @@
 --   cells-append             the cells of two walks
 --   word-left, word-stops    what a walk hands back, as a word
 --   tally-count, left-within the cells that a room has let through
+--   tally-one                one cell, as a word
 --   two-stops, two-left      what stops the first part stops both; what it leaves is the second's room
 -- Assumes nothing.
 use mathlib.Core.Path.{_≡_, refl, sym, ap, _∙_}

@@ -2,9 +2,9 @@
 --   deep-taken                  no depth left
 --   tree-taken                  a node that reads no part
 --   pass-taken                  a part alone
---   part-stops, part-then       a part, and what its number leads to
---   tag-stops, tag-then         a tag, and what it leads to
---   one-..                      a part after a tag
+--   tag-stops, tag-fails        a tag that is no number, or leads nowhere
+--   one-..                      a tag, and the part that it leads to
+--   part-stops                  a first part that is not read
 --   except-..                   a part without one of its numbers
 --   two-..                      a part, and a second one that may depend on its number
 -- Assumes nothing.
@@ -15,7 +15,6 @@ use Prim.Native.Nat.{ℕ, zero, suc, _+_, _-_, _^_, _≤_, _<_}
 use native.Mathlib.Numerals.{sub-one}
 use native.Mathlib.Omega.{arith}
 use lib.Dec.{eqb}
-use lib.ListN.{length}
 use borrow.Author.Tests.{eq-eqb, ne-eqb}
 use Rattle.numbers.specs.Pick.{pick}
 use Rattle.numbers.specs.Except
@@ -23,10 +22,9 @@ use Rattle.numbers.specs.Joined.{limit, capped}
 use Rattle.numbers.proofs.except.Laws as Excepts
 use Rattle.graph.proofs.Marks.{le-or-lt}
 use Rattle.grammar.specs.Rule.{Tree, done, fails, takes, reads, Rule}
-use Rattle.grammar.specs.declared.refusal.Refusal.the-variants.{TooDeep}
 use Rattle.walk.specs.Run.{Read, read, wrong, then, cellOf, follow, run}
 use Rattle.walk.specs.Took.{wordOf, Took, exact, large, stops, Taken}
-use Rattle.walk.proofs.Cells.{restated, taken-done, taken-large, taken-number, taken-fails, cell-then, first-stops, first-then}
+use Rattle.walk.proofs.Cells.{restated, taken-large, taken-number, taken-fails, cell-then, first-stops, first-then}
 
 then-read : (w : Read) → then w (λ m. read m) ≡ w
 then-read (read m q cs) = refl
@@ -119,7 +117,8 @@ module _ (g : ℕ → Rule) (i off : ℕ) {d : ℕ} {row : List ℕ} {at : ℕ} 
       part-stops b = first-stops h b (λ m. follow (run g (d - 1)) 0 (F m)) part-by
 
       part-then : x ≤ 2 ^ 63 → {l' next r : ℕ}
-          → ((m : ℕ) → (x < 2 ^ 63 → m ≡ x) → (2 ^ 63 ≤ x → l ≤ m) → Taken l' (follow (run g (d - 1)) 0 (F m)) row e next r) → Taken l' (run g d off i) row at next r
+          → ((m : ℕ) → (x < 2 ^ 63 → m ≡ x) → (2 ^ 63 ≤ x → l ≤ m) → Taken l' (follow (run g (d - 1)) 0 (F m)) row e next r)
+          → Taken l' (run g d off i) row at next r
       part-then b o = first-then h b (λ m. follow (run g (d - 1)) 0 (F m)) part-by o
 
     -- ---- "the case an except removed (met after its last cell)"
@@ -164,7 +163,8 @@ module _ (g : ℕ → Rule) (i off : ℕ) {d : ℕ} {row : List ℕ} {at : ℕ} 
       module _ (s : x ≤ 2 ^ 63) {b : ℕ} (node : (m : ℕ) → (x < 2 ^ 63 → m ≡ x) → c m ≡ b)
           (least : (m : ℕ) → (x < 2 ^ 63 → m ≡ x) → (n : ℕ) → (m ≤ J m n) × (n ≤ J m n)) {next y l' : ℕ}
           (le : l' ≤ l) (k : Taken l (run g (d - 1) 0 b) row e next y) where
-        two-then : {w : ℕ} → ((m : ℕ) → (x < 2 ^ 63 → m ≡ x) → (2 ^ 63 ≤ x → l ≤ m) → Taken l' (λ q cs. then (run g (d - 1) 0 b q cs) (λ n. read (J m n))) row e next w)
+        two-then : {w : ℕ}
+            → ((m : ℕ) → (x < 2 ^ 63 → m ≡ x) → (2 ^ 63 ≤ x → l ≤ m) → Taken l' (λ q cs. then (run g (d - 1) 0 b q cs) (λ n. read (J m n))) row e next w)
             → Taken l' (run g d off i) row at next w
         unfolding follow
         two-then {w} o =

@@ -4,17 +4,16 @@
 --   dep-first, dep-stops   the number of a dep's first part is below its size, or it is not read
 --   take-first, take-shift, take-next   what a part's call asks
 -- Assumes nothing.
-use mathlib.Core.Path.{_≡_, refl, sym, ap, subst, _∙_}
+use mathlib.Core.Path.{_≡_, refl, sym, ap, _∙_}
 use mathlib.Core.Bool.{Bool, true, false}
 use mathlib.Core.Logic.{⊎-elim}
 use mathlib.Core.List.{List}
 use Prim.Native.Nat.{ℕ, zero, suc, _+_, _-_, _*_, _^_, _≤_, _<_}
 use native.Mathlib.Omega.{arith}
 use lib.Dec.{eqb, ltb}
-use lib.ListN.{length, getD, take, drop}
+use lib.ListN.{getD, take, drop}
 use borrow.Author.Tests.{ltb-true, ltb-false, ne-eqb}
 use Rattle.numbers.specs.Pick.{pick}
-use Rattle.numbers.specs.Size.{Below}
 use Rattle.numbers.specs.Cons
 use Rattle.numbers.specs.Or
 use Rattle.numbers.specs.Dep
@@ -104,7 +103,10 @@ module _ {plan p : List ℕ} {i : ℕ} (r : Reading plan p i) where
     unfolding consRule
     cons-tree = tree-of (cons-rule r k)
 
-    pub cons-least : (x y : ℕ) → (x ≤ Cons.join (sizeIn plan (aWord plan i)) (sizeIn plan (bWord plan i)) x y) × (y ≤ Cons.join (sizeIn plan (aWord plan i)) (sizeIn plan (bWord plan i)) x y)
+    abbrev joined : ℕ → ℕ → ℕ
+    joined = Cons.join (sizeIn plan (aWord plan i)) (sizeIn plan (bWord plan i))
+
+    pub cons-least : (x y : ℕ) → (x ≤ joined x y) × (y ≤ joined x y)
     cons-least x y = let z = parts-some r (cons-lower r k) in Conses.join-least (sizeIn plan (aWord plan i)) (sizeIn plan (bWord plan i)) x y (z .0) (z .1)
 
   -- ---- dep

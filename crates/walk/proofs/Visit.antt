@@ -1,7 +1,8 @@
 -- A visit, over any rules: what it shows, by its items; and its parts may be visited.
 --   walk-..     what a visit shows
+--   visited     a node that may be visited is one of the plan
 --   Next        a part of a visit: it may be visited, at a number that is at most one more
---   nexts       of each part of a visit
+--   next-by     of each part of a visit
 -- Assumes nothing.
 use mathlib.Core.Path.{_≡_, refl, subst, ap, _∙_}
 use mathlib.Core.List.{List, [], _∷_, _++_, append-nil}
@@ -12,7 +13,7 @@ use Rattle.numbers.specs.Size.{Below}
 use Rattle.grammar.specs.Plan.{sizeIn, ruleIn}
 use Rattle.grammar.specs.Rule.{Item, own, part, Rule}
 use Rattle.grammar.specs.Law.{Each, Down, flat, guarded, skip}
-use Rattle.walk.specs.Walk.{Event, cell, deep, shown, walk}
+use Rattle.walk.specs.Walk.{cell, deep, shown, walk}
 use Rattle.walk.specs.Plan.{Reading, Visits}
 use Rattle.walk.proofs.Back.{under-mem}
 use Rattle.walk.proofs.Ends.{parts-of, each-two}

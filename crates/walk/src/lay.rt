@@ -1,5 +1,4 @@
 // The writing walk. The buffer is the room: what is left of it is handed back.
-ghost use mathlib.Core.Path.{_≡_};
 ghost use mathlib.Core.List.{[], _∷_, _++_};
 ghost use Prim.Native.Nat.{_+_, _*_, _^_, _≤_};
 ghost use lib.ListN.{length};
@@ -49,7 +48,9 @@ fn tagged(
 ) -> usize
     requires { ⌜ Visits (now (now lent)) (now (now words)) a m ⌝ }
     requires { ⌜ (m + left ≤ 2 ^ 62 + 200) × (left ≤ 200) × (length (now out) ≤ most) ⌝ }
-    ensures { λ r. ⌜ Laid (length (now (out .entry))) (cell tag ∷ walk (ruleIn (now (now (lent .entry))) (now (now (words .entry)))) left 0 a m) (now (out .entry)) (now (out .exit)) (leftOf r) ⌝ }
+    ensures { λ r. ⌜ Laid (length (now (out .entry)))
+        (cell tag ∷ walk (ruleIn (now (now (lent .entry))) (now (now (words .entry)))) left 0 a m)
+        (now (out .entry)) (now (out .exit)) (leftOf r) ⌝ }
 {
     if out.len() == 0 {
         return NO_ROOM;
@@ -72,7 +73,10 @@ fn both(
 ) -> usize
     requires { ⌜ Visits (now (now lent)) (now (now words)) a x × Visits (now (now lent)) (now (now words)) b y ⌝ }
     requires { ⌜ (x + left ≤ 2 ^ 62 + 200) × (y + left ≤ 2 ^ 62 + 200) × (left ≤ 200) × (length (now out) ≤ most) ⌝ }
-    ensures { λ r. ⌜ Laid (length (now (out .entry))) (walk (ruleIn (now (now (lent .entry))) (now (now (words .entry)))) left 0 a x ++ walk (ruleIn (now (now (lent .entry))) (now (now (words .entry)))) left 0 b y) (now (out .entry)) (now (out .exit)) (leftOf r) ⌝ }
+    ensures { λ r. ⌜ Laid (length (now (out .entry)))
+        (walk (ruleIn (now (now (lent .entry))) (now (now (words .entry)))) left 0 a x
+        ++ walk (ruleIn (now (now (lent .entry))) (now (now (words .entry)))) left 0 b y)
+        (now (out .entry)) (now (out .exit)) (leftOf r) ⌝ }
 {
     let rest = lay(lent, words, a, x, 0, left, out);
     if TOO_DEEP <= rest {
@@ -96,7 +100,9 @@ pub fn lay(
 ) -> usize
     requires { ⌜ Visits (now (now lent)) (now (now words)) i n × Raised (now (now lent)) i up ⌝ }
     requires { ⌜ (n + left ≤ 2 ^ 62 + 200) × (up + left * 2 ^ 32 ≤ 200 * 2 ^ 32) × (left ≤ 200) × (length (now out) ≤ most) ⌝ }
-    ensures { λ r. ⌜ Laid (length (now (out .entry))) (walk (ruleIn (now (now (lent .entry))) (now (now (words .entry)))) left up i n) (now (out .entry)) (now (out .exit)) (leftOf r) ⌝ }
+    ensures { λ r. ⌜ Laid (length (now (out .entry)))
+        (walk (ruleIn (now (now (lent .entry))) (now (now (words .entry)))) left up i n)
+        (now (out .entry)) (now (out .exit)) (leftOf r) ⌝ }
 {
     if left == 0 {
         return TOO_DEEP;

@@ -49,7 +49,8 @@ fn word(j: Joined) -> u64
 // A cell of its own, any number.
 fn leaf(row: &&[u64], off: u64, at: &mut usize) -> u64
     requires { ⌜ (now at ≤ length (now (now row))) × (length (now (now row)) ≤ 65536) ⌝ }
-    ensures { λ r. ⌜ Taken (2 ^ 62 + 256) (λ (q : ℕ) (cs : List ℕ). cellOf off q cs (λ (c : ℕ). read c)) (now (now (row .entry))) (now (at .entry)) (now (at .exit)) r ⌝ }
+    ensures { λ r. ⌜ Taken (2 ^ 62 + 256) (λ (q : ℕ) (cs : List ℕ). cellOf off q cs (λ (c : ℕ). read c))
+        (now (now (row .entry))) (now (at .entry)) (now (at .exit)) r ⌝ }
 {
     let cells = *row;
     let k = *at;
@@ -67,7 +68,8 @@ fn leaf(row: &&[u64], off: u64, at: &mut usize) -> u64
 // 15: "a number cell not below its count"
 fn counted(a: u64, row: &&[u64], off: u64, at: &mut usize) -> u64
     requires { ⌜ (a ≤ 2 ^ 62) × (now at ≤ length (now (now row))) × (length (now (now row)) ≤ 65536) ⌝ }
-    ensures { λ r. ⌜ ((go : ℕ → ℕ → ℕ → List ℕ → Read) → Taken (2 ^ 62 + 256) (follow go off (belowRule a .tree)) (now (now (row .entry))) (now (at .entry)) (now (at .exit)) r) ⌝ }
+    ensures { λ r. ⌜ ((go : ℕ → ℕ → ℕ → List ℕ → Read) → Taken (2 ^ 62 + 256) (follow go off (belowRule a .tree))
+        (now (now (row .entry))) (now (at .entry)) (now (at .exit)) r) ⌝ }
 {
     let c = leaf(row, off, at);
     if c < a {
@@ -83,7 +85,9 @@ fn counted(a: u64, row: &&[u64], off: u64, at: &mut usize) -> u64
 fn listed(words: &&[u64], a: usize, b: usize, row: &&[u64], off: u64, at: &mut usize) -> u64
     requires { ⌜ (b ≤ 4096) × (a + b ≤ length (now (now words))) × (length (now (now words)) ≤ 4096) ⌝ }
     requires { ⌜ (now at ≤ length (now (now row))) × (length (now (now row)) ≤ 65536) ⌝ }
-    ensures { λ r. ⌜ ((go : ℕ → ℕ → ℕ → List ℕ → Read) → Taken (2 ^ 62 + 256) (follow go off (poolRule (front b (drop a (now (now (words .entry))))) b .tree)) (now (now (row .entry))) (now (at .entry)) (now (at .exit)) r) ⌝ }
+    ensures { λ r. ⌜ ((go : ℕ → ℕ → ℕ → List ℕ → Read) → Taken (2 ^ 62 + 256)
+        (follow go off (poolRule (front b (drop a (now (now (words .entry))))) b .tree))
+        (now (now (row .entry))) (now (at .entry)) (now (at .exit)) r) ⌝ }
 {
     let cells = *row;
     let k = *at;
@@ -114,7 +118,8 @@ pub fn take(
 ) -> u64
     requires { ⌜ Reading (now (now lent)) (now (now words)) i ⌝ }
     requires { ⌜ (left ≤ 200) × (off + left * 2 ^ 32 ≤ 200 * 2 ^ 32) × (now at ≤ length (now (now row))) × (length (now (now row)) ≤ 65536) ⌝ }
-    ensures { λ r. ⌜ Taken (2 ^ 62 + (201 - left)) (run (ruleIn (now (now (lent .entry))) (now (now (words .entry)))) left off i) (now (now (row .entry))) (now (at .entry)) (now (at .exit)) r ⌝ }
+    ensures { λ r. ⌜ Taken (2 ^ 62 + (201 - left)) (run (ruleIn (now (now (lent .entry))) (now (now (words .entry)))) left off i)
+        (now (now (row .entry))) (now (at .entry)) (now (at .exit)) r ⌝ }
 {
     if left == 0 {
         return DEEP;

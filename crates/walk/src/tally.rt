@@ -64,7 +64,9 @@ fn both(
 ) -> usize
     requires { ⌜ Visits (now (now lent)) (now (now words)) a x × Visits (now (now lent)) (now (now words)) b y ⌝ }
     requires { ⌜ (x + left ≤ 2 ^ 62 + 200) × (y + left ≤ 2 ^ 62 + 200) × (left ≤ 200) × (room ≤ most) ⌝ }
-    ensures { λ r. ⌜ leftOf r ≡ tallied room (walk (ruleIn (now (now (lent .entry))) (now (now (words .entry)))) left 0 a x ++ walk (ruleIn (now (now (lent .entry))) (now (now (words .entry)))) left 0 b y) ⌝ }
+    ensures { λ r. ⌜ leftOf r ≡ tallied room
+        (walk (ruleIn (now (now (lent .entry))) (now (now (words .entry)))) left 0 a x
+        ++ walk (ruleIn (now (now (lent .entry))) (now (now (words .entry)))) left 0 b y) ⌝ }
 {
     let rest = tally(lent, words, a, x, left, room);
     if TOO_DEEP <= rest {

@@ -1,6 +1,5 @@
 -- `walk::take::counted` reads the cell of a below.
 -- Assumes nothing.
-use native.Mathlib.Omega.{arith}
 use Rattle.walk.proofs.Leaves.{counted-number, counted-stops, counted-unfit}
 use Rattle.walk.proofs.take.counted.Statement.{statement}
 use Rattle.walk.proofs.take.counted.Tie as tie

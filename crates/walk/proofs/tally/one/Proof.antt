@@ -1,6 +1,5 @@
 -- `walk::tally::one` is what one cell leaves of the room.
 -- Assumes nothing.
-use borrow.Author.Needs.{needs}
 use native.Mathlib.Omega.{arith}
 use Rattle.walk.proofs.Rooms.{tallied-full, tally-one}
 use Rattle.walk.proofs.tally.one.Statement.{statement}
