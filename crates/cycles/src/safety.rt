@@ -131,7 +131,8 @@ fn all_settled(table: &[u64], pool: &[u64], plan: &[u64], safe: &mut [u8; 256]) 
     ensures { λ r. ⌜ (r ≡ true → (n : ℕ) → Unguarded (now (table .entry)) (now (pool .entry)) (sizeIn (now (plan .entry))) n → ⊥) ⌝ }
 {
     let count = table.len() / 3;
-    let mut open = [0u8; 256];
+    // What is marked already needs no opening.
+    let mut open = *safe;
     for n in 0..count {
         settle(table, pool, plan, n, DEEPEST, &mut open, safe);
         if safe[n] == 0 {

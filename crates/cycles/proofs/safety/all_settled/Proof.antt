@@ -20,11 +20,11 @@ all-settled-spec =
     (tie.spec
     Inv-loop
     μ-loop
-    (λ c. settled-none (c .before .before .before .pre .1))
-    (λ c κs. (c .before .before .before .before .before .before .before .pre .0, (omega arith, c .before .before .before .loop .inv .marked)))
+    (λ c. settled-none (c .before .before .before .before .pre .1))
+    (λ c κs. (c .before .before .before .before .before .before .before .before .pre .0, (omega arith, c .before .before .before .loop .inv .marked)))
     (λ c. omega arith)
     (λ c. λ e. absurd (false≢true e))
     (λ c. omega arith)
     (λ c. omega arith)
     (λ c. settled-more (c .before .before .before .before .before .before .loop .inv) (c .before .before .before .before .before .loop-test .taken) (c .before .before .settle .ensures) (c .if1 .left))
-    (λ c. λ e. settled-all (c .before .before .before .before .before .pre .0) (c .before .loop .inv) (c .loop-test .left)))
+    (λ c. λ e. settled-all (c .before .before .before .before .before .before .pre .0) (c .before .loop .inv) (c .loop-test .left)))
