@@ -2,7 +2,7 @@
 ghost use mathlib.Core.Path.{_≡_};
 ghost use Rattle.walk.specs.Run.{Read};
 ghost use Rattle.checked.specs.Prepared.{Blank, Planning};
-ghost use Rattle.checked.specs.Item.{Met};
+ghost use Rattle.checked.specs.Met.{Met};
 ghost use Rattle.cases.specs.Read.{found, finds, reads};
 use checked::item::Got;
 use checked::item::got_at;

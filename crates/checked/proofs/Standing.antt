@@ -25,7 +25,8 @@ use Rattle.walk.specs.Plan.{Reading}
 use Rattle.walk.proofs.Only.{only}
 use Rattle.walk.proofs.Ends.{walk-some}
 use Rattle.checked.specs.Fits.{roomFor}
-use Rattle.checked.specs.Item.{frontOf, front, MetBy, Met, Stood}
+use Rattle.checked.specs.Met.{MetBy, Met}
+use Rattle.checked.specs.Item.{frontOf, Stood}
 use Rattle.checked.specs.declared.item.Got.{Got}
 use Rattle.checked.specs.declared.item.Got.the-variants.{Below, Beyond, Wrong}
 use Rattle.checked.specs.declared.item.Item.the-variants.{Number, Not}

@@ -1,7 +1,6 @@
 -- One case at the front of cells, on a checked table. 01: "the walk, then 16".
 --   Front     the number and the cells after its case, or the refusal
 --   front     what stands at the front
---   MetBy, Met     what the code met there: a number below 2^62 or one that is not, with the place after its cells, or a refusal
 --   Stood     the code's answer, with a place for the cells from there on
 -- Assumes nothing.
 use mathlib.Core.Path.{_≡_}
@@ -16,8 +15,6 @@ use Rattle.grammar.specs.Rule.{Rule}
 use Rattle.walk.specs.Walk.{depth}
 use Rattle.walk.specs.Room.{most}
 use Rattle.walk.specs.Run.{Read, read, wrong, run}
-use Rattle.checked.specs.declared.item.Got.{Got}
-use Rattle.checked.specs.declared.item.Got.the-variants.{Below, Beyond, Wrong}
 use Rattle.checked.specs.declared.item.Item.{Item}
 use Rattle.checked.specs.declared.item.Item.the-variants.{Number, Not}
 
@@ -32,15 +29,6 @@ frontOf (wrong r) = refused r
 
 abbrev pub front : (ℕ → Rule) → ℕ → List ℕ → Front
 front g i cs = frontOf (run g depth 0 i most cs)
-
--- a place stands for the cells from there on
-abbrev pub MetBy : Read → List ℕ → ℕ → Got → Type 0
-MetBy w cells at (Below n next) = (q : ℕ) × (w ≡ read n q (drop next cells)) × (n < 2 ^ 62) × (at < next) × (next ≤ length cells)
-MetBy w cells at (Beyond next) = (n : ℕ) × (q : ℕ) × (w ≡ read n q (drop next cells)) × (2 ^ 62 ≤ n) × (next ≤ length cells)
-MetBy w cells at (Wrong r) = w ≡ wrong r
-
-pub record Met (w : Read) (cells : List ℕ) (at : ℕ) (r : Got) : Type 0 where
-  pub is : MetBy w cells at r
 
 abbrev pub StoodBy : Front → List ℕ → ℕ → Item → Type 0
 StoodBy f cells at (Number n next) = (f ≡ number n (drop next cells)) × (at < next) × (next ≤ length cells)

@@ -19,7 +19,7 @@ use Rattle.grammar.specs.Plan.{ruleIn}
 use Rattle.walk.specs.Walk.{depth}
 use Rattle.walk.specs.Room.{most}
 use Rattle.walk.specs.Run.{Read, run}
-use Rattle.checked.specs.Item.{MetBy, Met}
+use Rattle.checked.specs.Met.{MetBy, Met}
 use Rattle.checked.specs.declared.item.Got.{Got}
 use Rattle.checked.specs.declared.item.Got.the-variants.{Below, Beyond, Wrong}
 use Rattle.checked.specs.Prepared.{Planning, Prepared}
