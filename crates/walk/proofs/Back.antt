@@ -3,8 +3,7 @@
 -- Assumes nothing.
 use mathlib.Core.Path.{_≡_, refl, subst, ap, _∙_}
 use mathlib.Core.Bool.{true}
-use mathlib.Core.Logic.{⊎-elim}
-use mathlib.Core.List.{List, [], _∷_, _++_, map, append-assoc, List·Memᴰ, List·Memᴰ·cases-cons, List·Memᴰ·not-nil}
+use mathlib.Core.List.{List, [], _∷_, _++_, map, append-assoc}
 use Prim.Native.Nat.{ℕ, zero, suc, _+_, _-_, _<_}
 use native.Mathlib.Omega.{arith}
 use lib.ListN.{length, length-append}
@@ -14,6 +13,7 @@ use Rattle.grammar.specs.Rule.{Tree, done, fails, takes, reads, Rule}
 use Rattle.walk.specs.Walk.{Event, cell, deep, shown, walk}
 use Rattle.walk.specs.Run.{read, cellOf, follow, run}
 use Rattle.grammar.specs.Law.{Path, endOf, itemsOf, Names, Under, Good}
+use Rattle.grammar.proofs.Stepping.{under-mem}
 
 -- ---- events that are all cells
 nil-cells : (cs : List ℕ) → [] ≡ map cell cs → cs ≡ []
@@ -52,11 +52,6 @@ both-then ws vs rest e = rw (e, append-assoc)
 
 taken-off : (n off : ℕ) → n + off - off ≡ n
 taken-off n off = omega arith
-
--- ---- the nodes that are named
-pub under-mem : (count : ℕ) (xs : List ℕ) → Under count xs → (p : ℕ) → List·Memᴰ p xs → p < count
-under-mem count [] u p m = absurd (List·Memᴰ·not-nil m)
-under-mem count (x ∷ xs) u p m = ⊎-elim (λ e. rw e (u .0)) (λ t. under-mem count xs (u .1) p t) (List·Memᴰ·cases-cons m)
 
 module _ (z : ℕ → Size) (count : ℕ) (g : ℕ → Rule) where
   -- every node's cells are read back, with a depth left

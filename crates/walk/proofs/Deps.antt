@@ -22,14 +22,12 @@ use Rattle.grammar.specs.Plan.{sizeIn, kindWord, aWord, bWord, ruleIn}
 use Rattle.grammar.specs.Seconds.{firsts, headSize, DepIn}
 use Rattle.grammar.specs.kinds.Dep.{secondsOf, depRule}
 use Rattle.grammar.proofs.Tests.{finite-word, endless-word}
+use Rattle.grammar.proofs.Stepping.{few-word}
 use Rattle.grammar.proofs.Runs.{run-long, run-at, run-fails, lower-run, finite-run}
 use Rattle.grammar.proofs.Seconds.{seconds-firsts, seconds-second, finite-total, else-finite, else-endless}
 use Rattle.grammar.proofs.laws.Dep.{total-before, seconds-before, alike-before}
 use Rattle.walk.specs.Plan.{Reading}
 use Rattle.walk.proofs.Nodes.{some-word, checks-by, reads-lower, rule-by}
-
-few-word : (w : ℕ) → few (sizeOf w) ≡ true → countOf (sizeOf w) ≡ w
-few-word w = by-size (λ s. few s ≡ true → countOf s ≡ w) w (λ l h. refl) (λ l h. absurd (false≢true h))
 
 few-below : (w x : ℕ) → few (sizeOf w) ≡ true → Below x (sizeOf w) → (x < w) × (w ≤ 256)
 few-below w x = by-size (λ s. few s ≡ true → Below x s → (x < w) × (w ≤ 256)) w (λ l h b. (b, leb-true w 256 h)) (λ l h b. absurd (false≢true h))

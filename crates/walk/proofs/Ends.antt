@@ -16,7 +16,7 @@ use Rattle.graph.proofs.Marks.{le-or-lt}
 use Rattle.grammar.specs.Rule.{Item, own, part, Tree, done, fails, takes, reads, Rule}
 use Rattle.walk.specs.Walk.{Event, cell, deep, shown, walk}
 use Rattle.grammar.specs.Law.{Path, endOf, Meets, itemsOf, Names, Each, Down, flat, guarded, skip, Lawful, Good}
-use Rattle.walk.proofs.Back.{under-mem}
+use Rattle.grammar.proofs.Stepping.{under-mem}
 use Rattle.walk.proofs.Descent.{Falls, first, number, second, descend}
 
 -- ---- events that are all cells

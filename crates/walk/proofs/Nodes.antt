@@ -2,24 +2,24 @@
 --   ..-rule       the rule of a node of each kind, by the plan's sizes; rule-by, checks-by for any kind word
 --   Lower         both parts are before the node; first-reads, second-reads, parts-.. of such parts
 --   in-plan       a node's words are in the plan
---   Unlike, known there is no other kind
+--   known         there is no other kind
 --   raised-..     what stands under a shift
 -- Assumes nothing.
 use mathlib.Core.Path.{_≡_, refl, sym, ap, subst, _∙_}
 use mathlib.Core.Bool.{Bool, true, false, _&&_, _||_, false≢true}
 use mathlib.Core.Logic.{_⊎_, inl, inr, ⊎-elim}
 use mathlib.Core.List.{List}
-use Prim.Native.Nat.{ℕ, zero, suc, _+_, _*_, _^_, _≤_, _<_}
+use Prim.Native.Nat.{ℕ, _+_, _*_, _^_, _≤_, _<_}
 use native.Mathlib.Omega.{arith}
 use lib.Dec.{eqb, ltb, leb}
-use lib.ListN.{length, getD, take, drop, List·getD-eq-default}
+use lib.ListN.{length, getD, take, drop}
 use borrow.Author.Tests.{ltb-true, leb-true, eqb-true}
 use Rattle.numbers.specs.Size.{Some, sizeOf}
 use Rattle.numbers.specs.Size.{below as isBelow}
 use Rattle.numbers.proofs.size.Laws.{by-size}
 use Rattle.grammar.specs.Rule.{Rule}
 use Rattle.grammar.specs.Kind.{Kind, before, Holds}
-use Rattle.grammar.specs.Nodes.{kinds, unknown, kindIn}
+use Rattle.grammar.specs.Nodes.{unknown, kindIn}
 use Rattle.grammar.specs.Plan.{sizeIn, kindWord, aWord, bWord, nodeIn, ruleIn}
 use Rattle.grammar.specs.Law.{Under}
 use Rattle.grammar.specs.kinds.Below.{belowRule}
@@ -31,20 +31,12 @@ use Rattle.grammar.specs.kinds.Cons.{consRule}
 use Rattle.grammar.specs.kinds.Except.{exceptRule}
 use Rattle.grammar.specs.kinds.Fix.{passRule}
 use Rattle.grammar.proofs.Tests.{and-left, and-right}
+use Rattle.grammar.proofs.Known.{Others, others-unknown}
 use Rattle.walk.specs.Plan.{Reading, Raised}
 
 -- a word of a size that is not 0
 pub some-word : (w : ℕ) → Some (sizeOf w) → 0 < w
 some-word w = by-size (λ s. Some s → 0 < w) w (λ l h. h) (λ l h. omega arith)
-
--- a word that is none of those below j, as a match's last arm has it
-abbrev pub Unlike : ℕ → ℕ → Type 0
-Unlike zero k = Unit {0}
-Unlike (suc j) k = Unlike j k × (k ≡ j → ⊥)
-
-unlike : (j k : ℕ) → Unlike j k → j ≤ k
-unlike zero k h = omega arith
-unlike (suc j) k h = let l = unlike j k (h .0) in let f = h .1 in omega arith
 
 -- ---- the rule, by the kind word
 pub rule-by : (plan p : List ℕ) (i : ℕ) {k : ℕ} → kindWord plan i ≡ k
@@ -91,9 +83,9 @@ module _ {plan p : List ℕ} {i : ℕ} (r : Reading plan p i) where
   reads-one e = subst (λ (t : Rule). Under (r .walks .count) (t .steps true)) e (r .walks .good .lawful i (r .node) .inside)
 
   -- ---- no check of an unknown kind is passed
-  pub known : Unlike 10 (kindWord plan i) → ⊥
+  pub known : Others 10 (kindWord plan i) → ⊥
   known f =
-      let e : kindIn (kindWord plan i) ≡ unknown = List·getD-eq-default kinds unknown {n = kindWord plan i} (unlike 10 (kindWord plan i) f) in
+      let e : kindIn (kindWord plan i) ≡ unknown = others-unknown (kindWord plan i) f in
       let h = subst (λ (k : Kind). Holds (k .checks (nodeIn plan p (r .walks .count) i) (before (sizeIn plan) i))) e (r .walks .holds i (r .node)) in
       false≢true (h .0)
 

@@ -15,7 +15,8 @@ use Rattle.grammar.specs.Rule.{Tree, done, fails, takes, reads, Rule}
 use Rattle.walk.specs.Walk.{Event, cell, shown, walk}
 use Rattle.walk.specs.Run.{Read, read, wrong, then, fit, cellOf, follow, run}
 use Rattle.grammar.specs.Law.{Path, endOf, itemsOf, Names, Under, Good}
-use Rattle.walk.proofs.Back.{under-mem, back}
+use Rattle.grammar.proofs.Stepping.{under-mem}
+use Rattle.walk.proofs.Back.{back}
 
 -- the cells of es stand before rest, and the room is for them and q' more
 pub record Spelt (es : List Event) (q : ℕ) (cs : List ℕ) (q' : ℕ) (rest : List ℕ) : Type 0 where

@@ -15,7 +15,7 @@ use Rattle.grammar.specs.Rule.{Item, own, part, Rule}
 use Rattle.grammar.specs.Law.{Each, Down, flat, guarded, skip}
 use Rattle.walk.specs.Walk.{cell, deep, shown, walk}
 use Rattle.walk.specs.Plan.{Reading, Visits}
-use Rattle.walk.proofs.Back.{under-mem}
+use Rattle.grammar.proofs.Stepping.{under-mem}
 use Rattle.walk.proofs.Ends.{parts-of, each-two}
 
 -- ---- what a visit shows

@@ -7,8 +7,6 @@ ghost use Rattle.walk.specs.Walk.{cell, walk};
 ghost use Rattle.walk.specs.Room.{most};
 ghost use Rattle.walk.specs.Laid.{Laid, leftOf};
 ghost use Rattle.walk.specs.Plan.{Visits, Raised};
-use super::parts::cons_split;
-use super::parts::or_split;
 use super::tally::NO_ROOM;
 use super::tally::TOO_DEEP;
 use grammar::kinds::AGAIN;
@@ -21,7 +19,9 @@ use grammar::kinds::NATS;
 use grammar::kinds::OR;
 use grammar::kinds::POOL;
 use grammar::kinds::SHIFT;
+use grammar::kinds::cons;
 use grammar::kinds::dep;
+use grammar::kinds::or;
 use numbers::or::Part;
 
 // One cell of the case.
@@ -119,12 +119,12 @@ pub fn lay(
             put(pool[a + n as usize], out)
         }
         SHIFT => lay(lent, words, a, n, up + b, left - 1, out),
-        OR => match or_split(plan, a, b as usize, n) {
+        OR => match or::split(plan, a, b as usize, n) {
             Part::First(m) => tagged(lent, words, 0, a, m, left - 1, out),
             Part::Second(m) => tagged(lent, words, 1, b as usize, m, left - 1, out),
         },
         CONS => {
-            let q = cons_split(plan, a, b as usize, n);
+            let q = cons::split(plan, a, b as usize, n);
             both(lent, words, a, q.first, b as usize, q.second, left - 1, out)
         }
         DEP => {

@@ -9,8 +9,6 @@ ghost use Rattle.grammar.specs.kinds.Pool.{poolRule};
 ghost use Rattle.walk.specs.Run.{Read, read, cellOf, follow, run};
 ghost use Rattle.walk.specs.Plan.{Reading};
 ghost use Rattle.walk.specs.Took.{wordOf, Taken};
-use super::parts::cons_join;
-use super::parts::or_join;
 use grammar::kinds::AGAIN;
 use grammar::kinds::BELOW;
 use grammar::kinds::CONS;
@@ -21,7 +19,9 @@ use grammar::kinds::NATS;
 use grammar::kinds::OR;
 use grammar::kinds::POOL;
 use grammar::kinds::SHIFT;
+use grammar::kinds::cons;
 use grammar::kinds::dep;
+use grammar::kinds::or;
 use grammar::kinds::pool::Place;
 use grammar::kinds::pool::place_of;
 use numbers::joined::Joined;
@@ -140,14 +140,14 @@ pub fn take(
                 if BIG <= m {
                     return m;
                 }
-                return word(or_join(plan, 0, b as usize, m));
+                return word(or::join(plan, 0, b as usize, m));
             }
             if tag == 1 {
                 let m = take(lent, words, row, b as usize, left - 1, 0, at);
                 if BIG <= m {
                     return m;
                 }
-                return word(or_join(plan, 1, a as usize, m));
+                return word(or::join(plan, 1, a as usize, m));
             }
             if BIG < tag {
                 return tag;
@@ -166,7 +166,7 @@ pub fn take(
             if BIG <= x {
                 return BIG;
             }
-            word(cons_join(plan, a as usize, b as usize, x, y))
+            word(cons::join(plan, a as usize, b as usize, x, y))
         }
         DEP => {
             // A first part's number is below its size, at most 256, so it is never BIG.

@@ -7,8 +7,6 @@ ghost use Rattle.walk.specs.Walk.{cell, walk};
 ghost use Rattle.walk.specs.Room.{tallied, most};
 ghost use Rattle.walk.specs.Laid.{leftOf};
 ghost use Rattle.walk.specs.Plan.{Visits};
-use super::parts::cons_split;
-use super::parts::or_split;
 use grammar::kinds::AGAIN;
 use grammar::kinds::BELOW;
 use grammar::kinds::CONS;
@@ -19,7 +17,9 @@ use grammar::kinds::NATS;
 use grammar::kinds::OR;
 use grammar::kinds::POOL;
 use grammar::kinds::SHIFT;
+use grammar::kinds::cons;
 use grammar::kinds::dep;
+use grammar::kinds::or;
 use numbers::or::Part;
 
 // What a walk hands back: what is left of the room after the case; or, from 2^63 on, the first of 13 and
@@ -93,12 +93,12 @@ pub fn tally(lent: &&[u64], words: &&[u64], i: usize, n: u64, left: usize, room:
         NATS => one(room),
         POOL => one(room),
         SHIFT => tally(lent, words, a, n, left - 1, room),
-        OR => match or_split(plan, a, b as usize, n) {
+        OR => match or::split(plan, a, b as usize, n) {
             Part::First(m) => tagged(lent, words, a, m, left - 1, room),
             Part::Second(m) => tagged(lent, words, b as usize, m, left - 1, room),
         },
         CONS => {
-            let q = cons_split(plan, a, b as usize, n);
+            let q = cons::split(plan, a, b as usize, n);
             both(
                 lent,
                 words,

@@ -1,14 +1,18 @@
 // 5 cons | nodes | both lower (4); size (8) | product
 ghost use mathlib.Core.Path.{_≡_};
 ghost use mathlib.Core.List.{List};
-ghost use Prim.Native.Nat.{ℕ, _+_, _*_, _≤_};
-ghost use lib.ListN.{length};
+ghost use Prim.Native.Nat.{ℕ, _+_, _*_, _<_, _≤_};
+ghost use lib.ListN.{length, getD};
+ghost use Rattle.numbers.specs.Joined.{capped};
+ghost use Rattle.numbers.specs.Cons;
 ghost use Rattle.grammar.specs.Nodes.{nodeWith};
 ghost use Rattle.grammar.specs.kinds.Cons.{cons};
 ghost use Rattle.grammar.specs.Plan.{sizeIn, weighed};
 use super::super::refusal::Refusal;
 use super::Weighed;
 use super::of_measured;
+use numbers::cons::Pair;
+use numbers::joined::Joined;
 use numbers::size;
 
 pub fn check(plan: &[u64], n: usize, a: usize, b: usize) -> Weighed
@@ -23,4 +27,21 @@ pub fn check(plan: &[u64], n: usize, a: usize, b: usize) -> Weighed
     }
     let m = size::product(plan[4 * a + 3], plan[4 * b + 3]);
     of_measured(m)
+}
+
+// The two parts' numbers, by the parts' sizes.
+pub fn split(plan: &[u64], a: usize, b: usize, n: u64) -> Pair
+    requires { ⌜ (4 * a + 3 < length (now plan)) × (4 * b + 3 < length (now plan)) ⌝ }
+    requires { ⌜ (0 < getD (now plan) (4 * a + 3) 0) × (0 < getD (now plan) (4 * b + 3) 0) ⌝ }
+    ensures { λ r. ⌜ r ≡ Cons.split (sizeIn (now (plan .entry)) a) (sizeIn (now (plan .entry)) b) n ⌝ }
+{
+    numbers::cons::split(plan[4 * a + 3], plan[4 * b + 3], n)
+}
+
+// The number of a cons's case: x and y are its parts' numbers.
+pub fn join(plan: &[u64], a: usize, b: usize, x: u64, y: u64) -> Joined
+    requires { ⌜ (4 * a + 3 < length (now plan)) × (4 * b + 3 < length (now plan)) ⌝ }
+    ensures { λ r. ⌜ r ≡ capped (Cons.join (sizeIn (now (plan .entry)) a) (sizeIn (now (plan .entry)) b) x y) ⌝ }
+{
+    numbers::cons::join(plan[4 * a + 3], plan[4 * b + 3], x, y)
 }

@@ -1,9 +1,11 @@
 // 4 or | nodes | both lower (4); size (8) | sum
 ghost use mathlib.Core.Path.{_≡_};
 ghost use mathlib.Core.List.{List, [], _∷_};
-ghost use Prim.Native.Nat.{ℕ, _+_, _*_, _≤_};
+ghost use Prim.Native.Nat.{ℕ, _+_, _*_, _<_, _≤_};
 ghost use lib.ListN.{length};
 ghost use Rattle.numbers.specs.Pick.{pick};
+ghost use Rattle.numbers.specs.Joined.{capped};
+ghost use Rattle.numbers.specs.Or;
 ghost use Rattle.grammar.specs.Nodes.{nodeWith};
 ghost use Rattle.grammar.specs.kinds.Or.{or};
 ghost use Rattle.grammar.specs.Plan.{sizeIn, weighed};
@@ -14,6 +16,8 @@ use super::super::steps::one;
 use super::super::steps::two;
 use super::Weighed;
 use super::of_measured;
+use numbers::joined::Joined;
+use numbers::or::Part;
 use numbers::size;
 
 pub fn check(plan: &[u64], n: usize, a: usize, b: usize) -> Weighed
@@ -38,4 +42,20 @@ pub fn steps(a: usize, b: usize, guarded: bool) -> Named
         return two(a, b);
     }
     one(a)
+}
+
+// The part that number n is of, and its number there, by the parts' sizes.
+pub fn split(plan: &[u64], a: usize, b: usize, n: u64) -> Part
+    requires { ⌜ (4 * a + 3 < length (now plan)) × (4 * b + 3 < length (now plan)) ⌝ }
+    ensures { λ r. ⌜ r ≡ Or.split (sizeIn (now (plan .entry)) a) (sizeIn (now (plan .entry)) b) n ⌝ }
+{
+    numbers::or::split(plan[4 * a + 3], plan[4 * b + 3], n)
+}
+
+// The number of an or's case: m is the number of the part with this tag; c is the other part.
+pub fn join(plan: &[u64], tag: u64, c: usize, m: u64) -> Joined
+    requires { ⌜ (tag ≤ 1) × (4 * c + 3 < length (now plan)) ⌝ }
+    ensures { λ r. ⌜ r ≡ capped (Or.turn tag (sizeIn (now (plan .entry)) c) m) ⌝ }
+{
+    numbers::or::turned(tag, plan[4 * c + 3], m)
 }

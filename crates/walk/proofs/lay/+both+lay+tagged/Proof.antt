@@ -38,11 +38,11 @@ use Rattle.walk.proofs.lay.+both+lay+tagged.Lts-lay as lay-lts
 use Rattle.walk.proofs.lay.tagged.Reads as tagged
 use Rattle.walk.proofs.lay.tagged.Kinds as tagged-kinds
 use Rattle.walk.proofs.lay.+both+lay+tagged.Lts-tagged as tagged-lts
+use Rattle.grammar.proofs.kinds.cons.split.Reads as cons-split-reads
 use Rattle.grammar.proofs.kinds.dep.parts.Reads as parts-reads
-use Rattle.numbers.proofs.except.split.Reads as split-reads
+use Rattle.grammar.proofs.kinds.or.split.Reads as or-split-reads
+use Rattle.numbers.proofs.except.split.Reads as except-split-reads
 use Rattle.walk.proofs.lay.put.Reads as put-reads
-use Rattle.walk.proofs.parts.cons_split.Reads as cons-split-reads
-use Rattle.walk.proofs.parts.or_split.Reads as or-split-reads
 use Rattle.walk.proofs.lay.+both+lay+tagged.{statement}
 use Rattle.walk.proofs.lay.+both+lay+tagged.Tie.{close}
 
@@ -90,8 +90,8 @@ module _ (t : ℕ) where
     both.Post,
     parts-reads.Asked,
     parts-reads.Learnt,
-    split-reads.Asked,
-    split-reads.Learnt,
+    except-split-reads.Asked,
+    except-split-reads.Learnt,
   )
 
   -- the first part's walk, and then the second's over what is left; and a tag, and then a part's
@@ -193,22 +193,22 @@ pub +both+lay+tagged-spec : {M : Type 1} → statement M
     (or-lower (visited v) (c .match .keys5)))
     (λ c. search needs)
     (λ c. omega (arith, c .before .before .before .before .before .before .before .before .before .if1 .left))
-    (λ c κs. let at-m = c .before .before in let at-or-split = at-m .before .before in let at-match = at-or-split .before in
+    (λ c κs. let at-m = c .before .before in let at-split = at-m .before .before in let at-match = at-split .before in
     let at-if1 = at-match .before .before .before .before .before in let at-pre = at-if1 .before .before in let v = at-pre .pre .1 .0 .0 in
     lay-tagged _ (at-pre .pre .0) (at-if1 .if1 .left) (at-pre .pre .1 .1)
-    (next-by v (or-first v (at-match .match .keys5) (at-or-split .or-split .ensures) (at-m .m .given .1)) .0))
+    (next-by v (or-first v (at-match .match .keys5) (at-split .split .ensures) (at-m .m .given .1)) .0))
     (λ c. search needs)
     (λ c. omega (arith, c .before .before .before .before .before .before .before .before .before .if1 .left))
-    (λ c κs. let at-m2 = c .before .before in let at-or-split = at-m2 .before .before in let at-match = at-or-split .before in
+    (λ c κs. let at-m2 = c .before .before in let at-split = at-m2 .before .before in let at-match = at-split .before in
     let at-if1 = at-match .before .before .before .before .before in let at-pre = at-if1 .before .before in let v = at-pre .pre .1 .0 .0 in
     lay-tagged _ (at-pre .pre .0) (at-if1 .if1 .left) (at-pre .pre .1 .1)
-    (next-by v (or-second v (at-match .match .keys5) (at-or-split .or-split .ensures) (at-m2 .m2 .given .1)) .0))
+    (next-by v (or-second v (at-match .match .keys5) (at-split .split .ensures) (at-m2 .m2 .given .1)) .0))
     (λ c κs. let at-pre = c .before .before .before .before .before .before .before in let v = at-pre .pre .1 .0 .0 in
     let l = cons-lower (visited v) (c .match .keys6) in (parts-in (visited v) l, words-some (visited v) l))
     (λ c. omega (arith, c .before .before .before .before .before .before .if1 .left))
-    (λ c κs. let at-cons-split = c .before in let at-match = at-cons-split .before in
+    (λ c κs. let at-split2 = c .before in let at-match = at-split2 .before in
     let at-if1 = at-match .before .before .before .before .before in let at-pre = at-if1 .before .before in let v = at-pre .pre .1 .0 .0 in
-    let n = next-by v (cons-items v (at-match .match .keys6) (at-cons-split .cons-split .ensures)) in lay-both _ (at-pre .pre .0)
+    let n = next-by v (cons-items v (at-match .match .keys6) (at-split2 .split2 .ensures)) in lay-both _ (at-pre .pre .0)
     (at-if1 .if1 .left) (at-pre .pre .1 .1) (n .0) (n .1 .0))
     (λ c κs. dep-in (visited (c .before .before .before .before .before .before .before .before .pre .1 .0 .0)) (c .before .match .keys7))
     (λ c. let at-match = c .before .before in let at-pre = at-match .before .before .before .before .before .before .before in
@@ -225,9 +225,9 @@ pub +both+lay+tagged-spec : {M : Type 1} → statement M
     (at-pre .pre .1 .1) (n .0) (n .1 .0))
     (λ c κs. omega (arith, c .before .before .before .before .before .before .before .pre .1 .1 .0))
     (λ c. omega (arith, c .before .before .before .before .before .before .if1 .left))
-    (λ c κs. let at-split = c .before in let at-match = at-split .before in let at-if1 = at-match .before .before .before .before .before in
+    (λ c κs. let at-split3 = c .before in let at-match = at-split3 .before in let at-if1 = at-match .before .before .before .before .before in
     let at-pre = at-if1 .before .before in let v = at-pre .pre .1 .0 .0 in lay-part _ (at-pre .pre .0) (at-if1 .if1 .left) (at-pre .pre .1 .1)
-    (next-by v (except-items v (at-match .match .keys8) (at-split .split .ensures)) .0))
+    (next-by v (except-items v (at-match .match .keys8) (at-split3 .split3 .ensures)) .0))
     (λ c. omega (arith, c .before .before .before .before .before .if1 .left))
     (λ c κs. let at-match = c .before in let at-if1 = at-match .before .before .before .before .before in
     let at-pre = at-if1 .before .before in let v = at-pre .pre .1 .0 .0 in lay-part _ (at-pre .pre .0) (at-if1 .if1 .left) (at-pre .pre .1 .1)
@@ -253,21 +253,21 @@ pub +both+lay+tagged-spec : {M : Type 1} → statement M
     let at-if1 = at-match .before .before .before .before .before in let at-pre = at-if1 .before .before in laid-by
     (walk-pass _ _ _ _ (at-if1 .if1 .left) (shift-items (at-pre .pre .1 .0 .0) (at-match .match .keys4)) refl) (at-lay .lay .ensures))
     (λ c. c .before .before .tagged .ensures .long)
-    (λ c. let at-tagged = c .before .before in let at-m = at-tagged .before .before .before in let at-or-split = at-m .before .before in
-    let at-match = at-or-split .before in let k = at-match .match .keys5 in let at-if1 = at-match .before .before .before .before .before in
+    (λ c. let at-tagged = c .before .before in let at-m = at-tagged .before .before .before in let at-split = at-m .before .before in
+    let at-match = at-split .before in let k = at-match .match .keys5 in let at-if1 = at-match .before .before .before .before .before in
     let at-pre = at-if1 .before .before in laid-by (walk-tag _ _ _ _ (at-if1 .if1 .left)
-    (or-first (at-pre .pre .1 .0 .0) k (at-or-split .or-split .ensures) (at-m .m .given .1)) (raised-none (at-pre .pre .1 .0 .1) k refl))
+    (or-first (at-pre .pre .1 .0 .0) k (at-split .split .ensures) (at-m .m .given .1)) (raised-none (at-pre .pre .1 .0 .1) k refl))
     (at-tagged .tagged .ensures))
     (λ c. c .before .before .tagged2 .ensures .long)
-    (λ c. let at-tagged2 = c .before .before in let at-m2 = at-tagged2 .before .before .before in let at-or-split = at-m2 .before .before in
-    let at-match = at-or-split .before in let k = at-match .match .keys5 in let at-if1 = at-match .before .before .before .before .before in
+    (λ c. let at-tagged2 = c .before .before in let at-m2 = at-tagged2 .before .before .before in let at-split = at-m2 .before .before in
+    let at-match = at-split .before in let k = at-match .match .keys5 in let at-if1 = at-match .before .before .before .before .before in
     let at-pre = at-if1 .before .before in laid-by (walk-tag _ _ _ _ (at-if1 .if1 .left)
-    (or-second (at-pre .pre .1 .0 .0) k (at-or-split .or-split .ensures) (at-m2 .m2 .given .1)) (raised-none (at-pre .pre .1 .0 .1) k refl))
+    (or-second (at-pre .pre .1 .0 .0) k (at-split .split .ensures) (at-m2 .m2 .given .1)) (raised-none (at-pre .pre .1 .0 .1) k refl))
     (at-tagged2 .tagged2 .ensures))
     (λ c. c .before .before .both .ensures .long)
-    (λ c. let at-both = c .before .before in let at-cons-split = at-both .before .before in let at-match = at-cons-split .before in
+    (λ c. let at-both = c .before .before in let at-split2 = at-both .before .before in let at-match = at-split2 .before in
     let k = at-match .match .keys6 in let at-if1 = at-match .before .before .before .before .before in let at-pre = at-if1 .before .before in
-    laid-by (walk-two _ _ _ _ (at-if1 .if1 .left) (cons-items (at-pre .pre .1 .0 .0) k (at-cons-split .cons-split .ensures))
+    laid-by (walk-two _ _ _ _ (at-if1 .if1 .left) (cons-items (at-pre .pre .1 .0 .0) k (at-split2 .split2 .ensures))
     (raised-none (at-pre .pre .1 .0 .1) k refl)) (at-both .both .ensures))
     (λ c. c .before .before .both2 .ensures .long)
     (λ c. let at-both2 = c .before .before in let at-parts = at-both2 .before .before .before in let at-match = at-parts .before .before in
@@ -275,9 +275,9 @@ pub +both+lay+tagged-spec : {M : Type 1} → statement M
     laid-by (walk-two _ _ _ _ (at-if1 .if1 .left) (dep-items (at-pre .pre .1 .0 .0) k (at-parts .parts .ensures))
     (raised-none (at-pre .pre .1 .0 .1) k refl)) (at-both2 .both2 .ensures))
     (λ c. c .before .before .lay2 .ensures .long)
-    (λ c. let at-lay2 = c .before .before in let at-split = at-lay2 .before .before in let at-match = at-split .before in
+    (λ c. let at-lay2 = c .before .before in let at-split3 = at-lay2 .before .before in let at-match = at-split3 .before in
     let k = at-match .match .keys8 in let at-if1 = at-match .before .before .before .before .before in let at-pre = at-if1 .before .before in
-    laid-by (walk-same _ _ _ _ (at-if1 .if1 .left) (except-items (at-pre .pre .1 .0 .0) k (at-split .split .ensures))
+    laid-by (walk-same _ _ _ _ (at-if1 .if1 .left) (except-items (at-pre .pre .1 .0 .0) k (at-split3 .split3 .ensures))
     (raised-none (at-pre .pre .1 .0 .1) k refl)) (at-lay2 .lay2 .ensures))
     (λ c. c .before .before .lay3 .ensures .long)
     (λ c. let at-lay3 = c .before .before in let at-match = at-lay3 .before .before in let k = at-match .match .keys9 in

@@ -72,10 +72,10 @@ use Rattle.walk.proofs.Trees.{
 use Rattle.walk.proofs.take.take.Reads as take
 use Rattle.walk.proofs.take.take.Kinds as take-kinds
 use Rattle.walk.proofs.take.+take.Lts-take as lts
-use Rattle.grammar.proofs.kinds.dep.join.Reads as kinds-dep-join-reads
+use Rattle.grammar.proofs.kinds.cons.join.Reads as cons-join-reads
+use Rattle.grammar.proofs.kinds.dep.join.Reads as dep-join-reads
+use Rattle.grammar.proofs.kinds.or.join.Reads as or-join-reads
 use Rattle.numbers.proofs.except.join.Reads as except-join-reads
-use Rattle.walk.proofs.parts.cons_join.Reads as cons-join-reads
-use Rattle.walk.proofs.parts.or_join.Reads as or-join-reads
 use Rattle.walk.proofs.take.counted.Reads as counted-reads
 use Rattle.walk.proofs.take.leaf.Reads as leaf-reads
 use Rattle.walk.proofs.take.listed.Reads as listed-reads
@@ -109,8 +109,8 @@ module _ (t : ℕ) where
     word-reads.Learnt,
     cons-join-reads.Asked,
     cons-join-reads.Learnt,
-    kinds-dep-join-reads.Asked,
-    kinds-dep-join-reads.Learnt,
+    dep-join-reads.Asked,
+    dep-join-reads.Learnt,
     except-join-reads.Asked,
     except-join-reads.Learnt,
   )
@@ -155,12 +155,12 @@ pub +take-spec : {M : Type 1} → statement M
     let at-pre = at-match .before .before .before .before .before .before in let v = at-pre .pre .1 .0 in
     (omega arith, parts-in v (or-lower v (at-match .match .keys5)) .1))
     (λ c κs. search needs)
-    (λ c. let at-or-join = c .before in let at-if3 = at-or-join .before in let at-take2 = at-if3 .before in
+    (λ c. let at-join = c .before in let at-if3 = at-join .before in let at-take2 = at-if3 .before in
     let at-if2 = at-take2 .before .before in let at-leaf2 = at-if2 .before in let at-match = at-leaf2 .before .before in
     let at-if1 = at-match .before .before .before .before .before in let at-pre = at-if1 .before in let v = at-pre .pre .1 .0 in one-number _
     _ _ (at-if1 .if1 .left) (or-tree v (at-match .match .keys5)) (at-leaf2 .leaf2 .ensures) (omega (arith, at-if2 .if2 .taken))
     (or-zero v (at-if2 .if2 .taken)) (λ m. turn-least v 0 _ m (omega arith)) (omega arith) (at-take2 .take2 .ensures) (omega arith)
-    (at-if3 .if3 .left) (c .word .ensures ∙ ap wordOf (at-or-join .or-join .ensures)))
+    (at-if3 .if3 .left) (c .word .ensures ∙ ap wordOf (at-join .join .ensures)))
     (λ c. omega (arith, c .before .before .before .before .before .before .before .before .before .if1 .left))
     (λ c κs. let at-if4 = c .before in let at-leaf2 = at-if4 .before .before in let at-match = at-leaf2 .before .before in
     let at-if1 = at-match .before .before .before .before .before in let at-pre = at-if1 .before in let v = at-pre .pre .1 .0 in take-next _ _
@@ -175,12 +175,12 @@ pub +take-spec : {M : Type 1} → statement M
     let at-pre = at-match .before .before .before .before .before .before in let v = at-pre .pre .1 .0 in
     (omega arith, parts-in v (or-lower v (at-match .match .keys5)) .0))
     (λ c κs. search needs)
-    (λ c. let at-or-join2 = c .before in let at-if5 = at-or-join2 .before in let at-take3 = at-if5 .before in
+    (λ c. let at-join2 = c .before in let at-if5 = at-join2 .before in let at-take3 = at-if5 .before in
     let at-if4 = at-take3 .before .before in let at-leaf2 = at-if4 .before .before in let at-match = at-leaf2 .before .before in
     let at-if1 = at-match .before .before .before .before .before in let at-pre = at-if1 .before in let v = at-pre .pre .1 .0 in one-number _
     _ _ (at-if1 .if1 .left) (or-tree v (at-match .match .keys5)) (at-leaf2 .leaf2 .ensures) (omega (arith, at-if4 .if4 .taken))
     (or-one v (at-if4 .if4 .taken)) (λ m. turn-least v 1 _ m (omega arith)) (omega arith) (at-take3 .take3 .ensures) (omega arith)
-    (at-if5 .if5 .left) (c .word2 .ensures ∙ ap wordOf (at-or-join2 .or-join2 .ensures)))
+    (at-if5 .if5 .left) (c .word2 .ensures ∙ ap wordOf (at-join2 .join2 .ensures)))
     (λ c. let at-leaf2 = c .before .before .before in let at-match = at-leaf2 .before .before in
     let at-if1 = at-match .before .before .before .before .before in let at-pre = at-if1 .before in tag-stops _ _ _ (at-if1 .if1 .left)
     (or-tree (at-pre .pre .1 .0) (at-match .match .keys5)) (at-leaf2 .leaf2 .ensures) (c .if6 .taken))
@@ -276,23 +276,23 @@ pub +take-spec : {M : Type 1} → statement M
     let at-if1 = at-match .before .before .before .before .before in let at-pre = at-if1 .before in let v = at-pre .pre .1 .0 in tag-fails _ _
     _ (at-if1 .if1 .left) (or-tree v (at-match .match .keys5)) (at-leaf2 .leaf2 .ensures) (c .if6 .left)
     (or-none v (at-if2 .if2 .left) (at-if4 .if4 .left)))
-    (λ c. let at-cons-join = c .before in let at-if9 = at-cons-join .before in let at-if8 = at-if9 .before in let at-take5 = at-if8 .before in
+    (λ c. let at-join3 = c .before in let at-if9 = at-join3 .before in let at-if8 = at-if9 .before in let at-take5 = at-if8 .before in
     let at-if7 = at-take5 .before .before in let at-take4 = at-if7 .before in let at-match = at-take4 .before .before in
     let k = at-match .match .keys6 in let at-if1 = at-match .before .before .before .before .before in let at-pre = at-if1 .before in
     let v = at-pre .pre .1 .0 in two-number _ _ _ (at-if1 .if1 .left) (cons-tree v k) (at-take4 .take4 .ensures) (at-if7 .if7 .left)
     (λ m s. refl) (λ m s n. cons-least v k m n) (omega arith) (at-take5 .take5 .ensures) (omega arith) (at-if8 .if8 .left) (at-if9 .if9 .left)
-    (c .word3 .ensures ∙ ap wordOf (at-cons-join .cons-join .ensures)))
-    (λ c. let at-join = c .before in let at-if11 = at-join .before in let at-take7 = at-if11 .before in
+    (c .word3 .ensures ∙ ap wordOf (at-join3 .join3 .ensures)))
+    (λ c. let at-join4 = c .before in let at-if11 = at-join4 .before in let at-take7 = at-if11 .before in
     let at-if10 = at-take7 .before .before .before .before in let at-take6 = at-if10 .before in let at-match = at-take6 .before .before in
     let k = at-match .match .keys7 in let at-if1 = at-match .before .before .before .before .before in let at-pre = at-if1 .before in
     let v = at-pre .pre .1 .0 in let d = dep-first v k _ _ (at-take6 .take6 .ensures) (omega arith) (omega (arith, at-if10 .if10 .left)) in
     two-number _ _ _ (at-if1 .if1 .left) (dep-tree v k) (at-take6 .take6 .ensures) (omega (arith, at-if10 .if10 .left))
     (dep-node v k (d .0) (d .1)) (dep-most v k (d .0) (d .1)) (omega arith) (at-take7 .take7 .ensures) (omega arith) (at-if11 .if11 .left)
-    (at-if10 .if10 .left) (c .word4 .ensures ∙ ap wordOf (at-join .join .ensures)))
-    (λ c. let at-join2 = c .before in let at-if13 = at-join2 .before in let at-if12 = at-if13 .before in let at-take8 = at-if12 .before in
+    (at-if10 .if10 .left) (c .word4 .ensures ∙ ap wordOf (at-join4 .join4 .ensures)))
+    (λ c. let at-join5 = c .before in let at-if13 = at-join5 .before in let at-if12 = at-if13 .before in let at-take8 = at-if12 .before in
     let at-match = at-take8 .before .before in let at-if1 = at-match .before .before .before .before .before in let at-pre = at-if1 .before in
     except-number _ _ _ (at-if1 .if1 .left) (except-tree (at-pre .pre .1 .0) (at-match .match .keys8)) (at-take8 .take8 .ensures)
-    (at-if12 .if12 .left) (at-if13 .if13 .left) (omega arith) (c .word5 .ensures ∙ ap wordOf (at-join2 .join2 .ensures)))
+    (at-if12 .if12 .left) (at-if13 .if13 .left) (omega arith) (c .word5 .ensures ∙ ap wordOf (at-join5 .join5 .ensures)))
     (λ c. let at-match = c .before .before in let at-if1 = at-match .before .before .before .before .before in let at-pre = at-if1 .before in
     pass-taken _ _ _ (at-if1 .if1 .left) (fix-tree (at-pre .pre .1 .0) (at-match .match .keys9)) (sym (add-zero _)) (omega arith)
     (c .take9 .ensures))

@@ -35,10 +35,10 @@ use Rattle.walk.proofs.tally.+both+tagged+tally.Lts-tagged as tagged-lt
 use Rattle.walk.proofs.tally.tally.Reads as tally
 use Rattle.walk.proofs.tally.tally.Kinds as tally-kinds
 use Rattle.walk.proofs.tally.+both+tagged+tally.Lts-tally as tally-lts
+use Rattle.grammar.proofs.kinds.cons.split.Reads as cons-split-reads
 use Rattle.grammar.proofs.kinds.dep.parts.Reads as parts-reads
-use Rattle.numbers.proofs.except.split.Reads as split-reads
-use Rattle.walk.proofs.parts.cons_split.Reads as cons-split-reads
-use Rattle.walk.proofs.parts.or_split.Reads as or-split-reads
+use Rattle.grammar.proofs.kinds.or.split.Reads as or-split-reads
+use Rattle.numbers.proofs.except.split.Reads as except-split-reads
 use Rattle.walk.proofs.tally.one.Reads as one-reads
 use Rattle.walk.proofs.tally.+both+tagged+tally.{statement}
 use Rattle.walk.proofs.tally.+both+tagged+tally.Tie.{close}
@@ -87,8 +87,8 @@ module _ (t : ℕ) where
     both.Post,
     parts-reads.Asked,
     parts-reads.Learnt,
-    split-reads.Asked,
-    split-reads.Learnt,
+    except-split-reads.Asked,
+    except-split-reads.Learnt,
   )
 
 pub +both+tagged+tally-spec : {M : Type 1} → statement M
@@ -137,21 +137,21 @@ pub +both+tagged+tally-spec : {M : Type 1} → statement M
     (or-lower (visited v) (c .match .keys5)))
     (λ c. search needs)
     (λ c. omega (arith, c .before .before .before .before .before .before .before .before .before .if1 .left))
-    (λ c κs. let at-m = c .before in let at-or-split = at-m .before .before in let at-match = at-or-split .before in
+    (λ c κs. let at-m = c .before in let at-split = at-m .before .before in let at-match = at-split .before in
     let at-if1 = at-match .before .before .before .before .before in let at-pre = at-if1 .before in let v = at-pre .pre .1 .0 in tally-tagged
     (at-pre .pre .0) (at-if1 .if1 .left) (at-pre .pre .1 .1)
-    (next-by v (or-first v (at-match .match .keys5) (at-or-split .or-split .ensures) (at-m .m .given .1)) .0))
+    (next-by v (or-first v (at-match .match .keys5) (at-split .split .ensures) (at-m .m .given .1)) .0))
     (λ c. search needs)
     (λ c. omega (arith, c .before .before .before .before .before .before .before .before .before .if1 .left))
-    (λ c κs. let at-m2 = c .before in let at-or-split = at-m2 .before .before in let at-match = at-or-split .before in
+    (λ c κs. let at-m2 = c .before in let at-split = at-m2 .before .before in let at-match = at-split .before in
     let at-if1 = at-match .before .before .before .before .before in let at-pre = at-if1 .before in let v = at-pre .pre .1 .0 in tally-tagged
     (at-pre .pre .0) (at-if1 .if1 .left) (at-pre .pre .1 .1)
-    (next-by v (or-second v (at-match .match .keys5) (at-or-split .or-split .ensures) (at-m2 .m2 .given .1)) .0))
+    (next-by v (or-second v (at-match .match .keys5) (at-split .split .ensures) (at-m2 .m2 .given .1)) .0))
     (λ c κs. let at-pre = c .before .before .before .before .before .before in let v = at-pre .pre .1 .0 in
     let l = cons-lower (visited v) (c .match .keys6) in (parts-in (visited v) l, words-some (visited v) l))
     (λ c. omega (arith, c .before .before .before .before .before .before .if1 .left))
     (λ c κs. let at-match = c .before in let at-if1 = at-match .before .before .before .before .before in let at-pre = at-if1 .before in
-    let v = at-pre .pre .1 .0 in let n = next-by v (cons-items v (at-match .match .keys6) (c .cons-split .ensures)) in tally-both
+    let v = at-pre .pre .1 .0 in let n = next-by v (cons-items v (at-match .match .keys6) (c .split2 .ensures)) in tally-both
     (at-pre .pre .0) (at-if1 .if1 .left) (at-pre .pre .1 .1) (n .0) (n .1 .0))
     (λ c κs. dep-in (visited (c .before .before .before .before .before .before .before .pre .1 .0)) (c .before .match .keys7))
     (λ c. let at-match = c .before .before in let at-pre = at-match .before .before .before .before .before .before in
@@ -170,7 +170,7 @@ pub +both+tagged+tally-spec : {M : Type 1} → statement M
     (λ c. omega (arith, c .before .before .before .before .before .before .if1 .left))
     (λ c κs. let at-match = c .before in let at-if1 = at-match .before .before .before .before .before in let at-pre = at-if1 .before in
     let v = at-pre .pre .1 .0 in tally-part (at-pre .pre .0) (at-if1 .if1 .left) (at-pre .pre .1 .1)
-    (next-by v (except-items v (at-match .match .keys8) (c .split .ensures)) .0))
+    (next-by v (except-items v (at-match .match .keys8) (c .split3 .ensures)) .0))
     (λ c. omega (arith, c .before .before .before .before .before .if1 .left))
     (λ c κs. let at-if1 = c .before .before .before .before .before in let at-pre = at-if1 .before in let v = at-pre .pre .1 .0 in tally-part
     (at-pre .pre .0) (at-if1 .if1 .left) (at-pre .pre .1 .1) (next-by v (fix-items v (c .match .keys9)) .0))
@@ -185,24 +185,24 @@ pub +both+tagged+tally-spec : {M : Type 1} → statement M
     tally-any _ (walk-cell _ _ _ _ (at-if1 .if1 .left) (pool-items (at-pre .pre .1 .0) (at-match .match .keys3)) refl) (c .one3 .ensures))
     (λ c. let at-match = c .before in let at-if1 = at-match .before .before .before .before .before in let at-pre = at-if1 .before in tally-up
     _ _ _ _ _ _ (walk-pass _ _ _ _ (at-if1 .if1 .left) (shift-items (at-pre .pre .1 .0) (at-match .match .keys4)) refl) (c .tally .ensures))
-    (λ c. let at-m = c .before .before in let at-or-split = at-m .before .before in let at-match = at-or-split .before in
+    (λ c. let at-m = c .before .before in let at-split = at-m .before .before in let at-match = at-split .before in
     let at-if1 = at-match .before .before .before .before .before in let at-pre = at-if1 .before in tally-any _ (walk-tag _ _ _ _
-    (at-if1 .if1 .left) (or-first (at-pre .pre .1 .0) (at-match .match .keys5) (at-or-split .or-split .ensures) (at-m .m .given .1)) refl)
+    (at-if1 .if1 .left) (or-first (at-pre .pre .1 .0) (at-match .match .keys5) (at-split .split .ensures) (at-m .m .given .1)) refl)
     (c .tagged .ensures))
-    (λ c. let at-m2 = c .before .before in let at-or-split = at-m2 .before .before in let at-match = at-or-split .before in
+    (λ c. let at-m2 = c .before .before in let at-split = at-m2 .before .before in let at-match = at-split .before in
     let at-if1 = at-match .before .before .before .before .before in let at-pre = at-if1 .before in tally-any _ (walk-tag _ _ _ _
-    (at-if1 .if1 .left) (or-second (at-pre .pre .1 .0) (at-match .match .keys5) (at-or-split .or-split .ensures) (at-m2 .m2 .given .1)) refl)
+    (at-if1 .if1 .left) (or-second (at-pre .pre .1 .0) (at-match .match .keys5) (at-split .split .ensures) (at-m2 .m2 .given .1)) refl)
     (c .tagged2 .ensures))
-    (λ c. let at-cons-split = c .before in let at-match = at-cons-split .before in
+    (λ c. let at-split2 = c .before in let at-match = at-split2 .before in
     let at-if1 = at-match .before .before .before .before .before in let at-pre = at-if1 .before in tally-by _ (walk-two _ _ _ _
-    (at-if1 .if1 .left) (cons-items (at-pre .pre .1 .0) (at-match .match .keys6) (at-cons-split .cons-split .ensures)) refl)
+    (at-if1 .if1 .left) (cons-items (at-pre .pre .1 .0) (at-match .match .keys6) (at-split2 .split2 .ensures)) refl)
     (c .both .ensures))
     (λ c. let at-parts = c .before .before in let at-match = at-parts .before .before in
     let at-if1 = at-match .before .before .before .before .before in let at-pre = at-if1 .before in tally-by _ (walk-two _ _ _ _
     (at-if1 .if1 .left) (dep-items (at-pre .pre .1 .0) (at-match .match .keys7) (at-parts .parts .ensures)) refl) (c .both2 .ensures))
-    (λ c. let at-split = c .before in let at-match = at-split .before in let at-if1 = at-match .before .before .before .before .before in
+    (λ c. let at-split3 = c .before in let at-match = at-split3 .before in let at-if1 = at-match .before .before .before .before .before in
     let at-pre = at-if1 .before in tally-by _ (walk-pass _ _ _ _ (at-if1 .if1 .left)
-    (except-items (at-pre .pre .1 .0) (at-match .match .keys8) (at-split .split .ensures)) refl) (c .tally2 .ensures))
+    (except-items (at-pre .pre .1 .0) (at-match .match .keys8) (at-split3 .split3 .ensures)) refl) (c .tally2 .ensures))
     (λ c. let at-match = c .before in let at-if1 = at-match .before .before .before .before .before in let at-pre = at-if1 .before in tally-by
     _ (walk-pass _ _ _ _ (at-if1 .if1 .left) (fix-items (at-pre .pre .1 .0) (at-match .match .keys9)) refl) (c .tally3 .ensures))
     (λ c. let at-match = c .before in let at-if1 = at-match .before .before .before .before .before in let at-pre = at-if1 .before in tally-by
