@@ -22,7 +22,7 @@ use Rattle.graph.proofs.Lowest.{lowest-256}
 use Rattle.graph.proofs.Ways.{via-decide}
 use Rattle.grammar.specs.Table.{nodes, lengths}
 use Rattle.grammar.specs.Sizes.{Scan, passed, sizeAt, scan, sizes, sizesIn, rulesOf}
-use Rattle.grammar.specs.Checks.{Fit}
+use Rattle.grammar.specs.Law.{Fit}
 use Rattle.grammar.specs.Checked.{Checked}
 use Rattle.grammar.specs.Steps.{Leads, Unguarded, ExceptOnCycle}
 use Rattle.grammar.specs.Verdict.{leads, unguarded, exceptOnCycle, cycles, settled, verdict}

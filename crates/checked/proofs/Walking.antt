@@ -11,8 +11,8 @@ use lib.ListN.{length, getD, List·getD-eq-default}
 use Rattle.numbers.specs.Size.{Size, Some}
 use Rattle.graph.proofs.Marks.{le-or-lt}
 use Rattle.grammar.specs.Table.{kindOf, aOf, bOf, nodes}
-use Rattle.grammar.specs.Kind.{Node, before, Holds}
-use Rattle.grammar.specs.Law.{Good}
+use Rattle.grammar.specs.Kind.{Node, before}
+use Rattle.grammar.specs.Law.{Holds, Good}
 use Rattle.grammar.specs.Rule.{Rule}
 use Rattle.grammar.specs.Nodes.{kindIn, nodeAt, ruleAt}
 use Rattle.grammar.specs.Sizes.{sizeAt, sizes, rulesOf}

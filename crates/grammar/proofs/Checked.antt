@@ -20,10 +20,10 @@ use Rattle.numbers.specs.Pick.{pick}
 use Rattle.numbers.specs.Size.{Size, finite, endless}
 use Rattle.graph.proofs.Marks.{same?}
 use Rattle.grammar.specs.Table.{kindOf, aOf, bOf, nodes}
-use Rattle.grammar.specs.Checks.{Check, asks, Row, fault, sized, row, Fit}
-use Rattle.grammar.specs.Kind.{Kind, before, Holds}
+use Rattle.grammar.specs.Checks.{Check, asks, Row, fault, sized, row}
+use Rattle.grammar.specs.Law.{Fit, Holds, Under, Good}
+use Rattle.grammar.specs.Kind.{Kind, before}
 use Rattle.grammar.specs.Nodes.{kinds, unknown, kindIn, nodeAt, ruleAt, rowAt}
-use Rattle.grammar.specs.Law.{Under, Good}
 use Rattle.grammar.specs.Checked.{Checked}
 use Rattle.grammar.specs.Sizes.{Scan, passed, faulty, sizeAt, noted, onward, scan}
 use Rattle.grammar.specs.declared.refusal.Refusal.{Refusal}

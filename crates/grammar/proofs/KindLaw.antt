@@ -10,9 +10,8 @@ use mathlib.Core.List.{List, [], _∷_}
 use Prim.Native.Nat.{ℕ, zero, suc, _<_}
 use lib.ListN.{getD}
 use Rattle.numbers.specs.Size.{Size, finite, endless, Some}
-use Rattle.grammar.specs.Checks.{Fit}
-use Rattle.grammar.specs.Law.{Lawful, Under}
-use Rattle.grammar.specs.Kind.{Node, Kind, before, Holds}
+use Rattle.grammar.specs.Law.{Fit, Lawful, Under, Holds}
+use Rattle.grammar.specs.Kind.{Node, Kind, before}
 
 pub fit-some : (s : Size) → Fit s → Some s
 fit-some (finite s) h = h .0

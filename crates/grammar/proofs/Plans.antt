@@ -18,7 +18,7 @@ use Rattle.numbers.proofs.size.Laws.{sized-finite, sized-endless}
 use Rattle.graph.proofs.Marks.{same?, le-or-lt, blank}
 use Rattle.grammar.specs.Table.{kindOf, aOf, bOf, nodes}
 use Rattle.grammar.specs.Sizes.{sizeAt}
-use Rattle.grammar.specs.Checks.{Fit}
+use Rattle.grammar.specs.Law.{Fit}
 use Rattle.grammar.specs.Plan.{sizeIn, rowed, Planned}
 
 -- ---- the sizes with one more

@@ -18,8 +18,8 @@ use Rattle.numbers.specs.Size.{Size, sizeOf}
 use Rattle.numbers.proofs.size.Laws.{by-size}
 use Rattle.grammar.specs.Table.{kindOf, aOf, bOf, nodes}
 use Rattle.grammar.specs.Checks.{few, count, seconds}
-use Rattle.grammar.specs.Law.{Under}
-use Rattle.grammar.specs.Kind.{Kind, before, Holds}
+use Rattle.grammar.specs.Law.{Under, Holds}
+use Rattle.grammar.specs.Kind.{Kind, before}
 use Rattle.grammar.specs.kinds.Below.{belowRule}
 use Rattle.grammar.specs.kinds.Nats.{natsRule}
 use Rattle.grammar.specs.kinds.Pool.{poolRule}

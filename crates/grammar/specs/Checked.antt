@@ -7,10 +7,9 @@ use Prim.Native.Nat.{ℕ, _*_, _≤_, _<_}
 use lib.ListN.{length}
 use Rattle.numbers.specs.Size.{Size}
 use Rattle.grammar.specs.Table.{kindOf, nodes}
-use Rattle.grammar.specs.Checks.{Fit}
-use Rattle.grammar.specs.Kind.{before, Holds}
+use Rattle.grammar.specs.Law.{Fit, Holds, Good}
+use Rattle.grammar.specs.Kind.{before}
 use Rattle.grammar.specs.Nodes.{kindIn, nodeAt, ruleAt}
-use Rattle.grammar.specs.Law.{Good}
 
 -- z has the sizes
 pub record Checked (t p : List ℕ) (z : ℕ → Size) : Type 0 where

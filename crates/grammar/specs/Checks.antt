@@ -2,7 +2,6 @@
 --   Check, Row, row       the first check that fails, or the size
 --   within, different, every   tests of words
 --   fits, isEndless, isOne, few, count   tests of sizes
---   Fit                   a size that a row may give
 --   seconds, total, allLower, allFinite, allEndless   of a dep's seconds; z has the nodes' sizes
 -- Assumes nothing.
 use mathlib.Core.Bool.{Bool, true, false, not, _&&_}
@@ -45,11 +44,6 @@ every test (x ∷ xs) = test x && every test xs
 abbrev pub fits : Size → Bool
 fits (finite s) = leb s (2 ^ 62)
 fits endless = true
-
--- what a row may give: 1 to 2^62, or endless
-abbrev pub Fit : Size → Type 0
-Fit (finite s) = (0 < s) × (s ≤ 2 ^ 62)
-Fit endless = Unit {0}
 
 abbrev pub isEndless : Size → Bool
 isEndless (finite s) = false

@@ -4,7 +4,6 @@
 --   lower    "Lower" means a node number below the node's own
 --   before   the sizes of the nodes below n: a row looks at no others
 --   spare    "a word not used is zero"
---   Holds    every check is passed
 -- Assumes nothing.
 use mathlib.Core.Path.{_≡_}
 use mathlib.Core.Bool.{Bool, true, _&&_, _||_}
@@ -38,7 +37,3 @@ before z n i = pick (ltb i n) (z i) (finite 0)
 
 abbrev pub spare : Kind → ℕ → ℕ → Bool
 spare k a b = (k .usesA || eqb a 0) && (k .usesB || eqb b 0)
-
-abbrev pub Holds : List Check → Type 0
-Holds [] = Unit {0}
-Holds (asks q r ∷ cs) = (q ≡ true) × Holds cs

@@ -7,12 +7,15 @@
 --   Down       a part's number is not above the rule's, or the step to it is guarded and it is below, or the rule skips
 --   Lawful     of one rule; z has the sizes
 --   Good       of all nodes below count
+--   Holds      every check of a row is passed
+--   Fit        a size that a row may give
 -- Assumes nothing.
 use mathlib.Core.Path.{_≡_}
 use mathlib.Core.Bool.{true, false}
 use mathlib.Core.List.{List, [], _∷_, List·Memᴰ}
-use Prim.Native.Nat.{ℕ, _+_, _≤_, _<_}
-use Rattle.numbers.specs.Size.{Size, Below}
+use Prim.Native.Nat.{ℕ, _+_, _^_, _≤_, _<_}
+use Rattle.numbers.specs.Size.{Size, finite, endless, Below}
+use Rattle.grammar.specs.Checks.{Check, asks}
 use Rattle.grammar.specs.Rule.{Item, own, part, Tree, done, fails, takes, reads, Rule}
 
 abbrev pub Path : (ℕ → Size) → Tree → Type 0
@@ -81,3 +84,13 @@ pub record Lawful (z : ℕ → Size) (count : ℕ) (r : Rule) : Type 0 where
 pub record Good (z : ℕ → Size) (count : ℕ) (g : ℕ → Rule) : Type 0 where
   pub lawful : (i : ℕ) → i < count → Lawful z count (g i)
   pub sized : (i : ℕ) → i < count → z i ≡ g i .size
+
+-- ---- what the checks of a row leave
+abbrev pub Holds : List Check → Type 0
+Holds [] = Unit {0}
+Holds (asks q r ∷ cs) = (q ≡ true) × Holds cs
+
+-- what a row may give: 1 to 2^62, or endless
+abbrev pub Fit : Size → Type 0
+Fit (finite s) = (0 < s) × (s ≤ 2 ^ 62)
+Fit endless = Unit {0}

@@ -15,7 +15,8 @@ use Prim.Native.Nat.{ℕ, _+_, _*_, _≤_, _<_}
 use lib.ListN.{length, getD, set}
 use Rattle.numbers.specs.Size.{Size, codeOf, sizeOf}
 use Rattle.grammar.specs.Table.{kindOf, aOf, bOf, nodes}
-use Rattle.grammar.specs.Checks.{Row, fault, sized, row, Fit}
+use Rattle.grammar.specs.Checks.{Row, fault, sized, row}
+use Rattle.grammar.specs.Law.{Fit}
 use Rattle.grammar.specs.Rule.{Rule}
 use Rattle.grammar.specs.Kind.{Node, Kind, before}
 use Rattle.grammar.specs.Nodes.{kindIn}

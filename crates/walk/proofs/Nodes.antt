@@ -18,10 +18,10 @@ use Rattle.numbers.specs.Size.{Some, sizeOf}
 use Rattle.numbers.specs.Size.{below as isBelow}
 use Rattle.numbers.proofs.size.Laws.{by-size}
 use Rattle.grammar.specs.Rule.{Rule}
-use Rattle.grammar.specs.Kind.{Kind, before, Holds}
+use Rattle.grammar.specs.Kind.{Kind, before}
+use Rattle.grammar.specs.Law.{Holds, Under}
 use Rattle.grammar.specs.Nodes.{unknown, kindIn}
 use Rattle.grammar.specs.Plan.{sizeIn, kindWord, aWord, bWord, nodeIn, ruleIn}
-use Rattle.grammar.specs.Law.{Under}
 use Rattle.grammar.specs.kinds.Below.{belowRule}
 use Rattle.grammar.specs.kinds.Nats.{natsRule}
 use Rattle.grammar.specs.kinds.Pool.{poolRule}

@@ -12,7 +12,8 @@ use Rattle.numbers.specs.Size.{endless, sizeOf, plus, times, less}
 use Rattle.graph.specs.Ways.{has}
 use Rattle.grammar.specs.Rule.{Rule}
 use Rattle.grammar.specs.Checks.{different, every, total}
-use Rattle.grammar.specs.Kind.{before, Holds}
+use Rattle.grammar.specs.Kind.{before}
+use Rattle.grammar.specs.Law.{Holds, Fit}
 use Rattle.grammar.specs.Nodes.{kinds, unknown, kindIn}
 use Rattle.grammar.specs.Plan.{sizeIn, kindWord, nodeIn, ruleIn}
 use Rattle.grammar.specs.kinds.Below.{belowRule}
@@ -24,7 +25,6 @@ use Rattle.grammar.specs.kinds.Cons.{consRule}
 use Rattle.grammar.specs.kinds.Dep.{depRule}
 use Rattle.grammar.specs.kinds.Except.{exceptRule}
 use Rattle.grammar.specs.kinds.Fix.{passRule}
-use Rattle.grammar.specs.Checks.{Fit}
 use Rattle.grammar.proofs.KindLaw.{fit-some, KindLaw, each-kind}
 use Rattle.grammar.proofs.Kept.{laws, unknown-law}
 use Rattle.walk.specs.Plan.{Walkable, Visits}

@@ -10,8 +10,8 @@ use mathlib.Core.List.{List}
 use Prim.Native.Nat.{ℕ, _*_, _≤_, _<_}
 use lib.ListN.{length}
 use Rattle.numbers.specs.Size.{Below, Some}
-use Rattle.grammar.specs.Law.{Good}
-use Rattle.grammar.specs.Kind.{before, Holds}
+use Rattle.grammar.specs.Law.{Good, Holds}
+use Rattle.grammar.specs.Kind.{before}
 use Rattle.grammar.specs.Nodes.{kindIn}
 use Rattle.grammar.specs.Plan.{sizeIn, kindWord, nodeIn, ruleIn}
 

@@ -11,11 +11,11 @@ use lib.Dec.{ltb}
 use lib.ListN.{length, getD}
 use borrow.Author.Tests.{ltb-true, leb-true}
 use Rattle.numbers.specs.Size.{Size, finite, endless, Below, Some, plus}
-use Rattle.grammar.specs.Checks.{Fit, fits, isEndless}
+use Rattle.grammar.specs.Checks.{fits, isEndless}
+use Rattle.grammar.specs.Law.{Fit, Under, flat, Lawful, Holds}
 use Rattle.grammar.proofs.Tests.{and-left, and-right}
 use Rattle.grammar.specs.Rule.{own, reads}
-use Rattle.grammar.specs.Law.{Under, flat, Lawful}
-use Rattle.grammar.specs.Kind.{Node, before, Holds}
+use Rattle.grammar.specs.Kind.{Node, before}
 use Rattle.grammar.proofs.KindLaw.{fit-some, KindLaw, Lower}
 use mathlib.Core.List.{List·Memᴰ}
 use native.Mathlib.Nat.{le-refl, not-suc-le-zero, le-of-suc-le-suc}

@@ -11,10 +11,10 @@ use lib.Dec.{eqb, ltb}
 use borrow.Author.Tests.{ltb-true, eqb-false, ne-eqb}
 use Rattle.numbers.specs.Pick.{pick}
 use Rattle.numbers.specs.Size.{Size, finite, endless, Below, less}
-use Rattle.grammar.specs.Checks.{Fit, isOne}
+use Rattle.grammar.specs.Checks.{isOne}
+use Rattle.grammar.specs.Law.{Fit, Spells, skip, Lawful}
 use Rattle.grammar.proofs.Tests.{and-left}
 use Rattle.grammar.specs.Rule.{own, part, done, fails, reads}
-use Rattle.grammar.specs.Law.{Spells, skip, Lawful}
 use Rattle.grammar.proofs.Trees.{spell-done, spell-reads, spell-right, read-pick, names-pick}
 use Rattle.grammar.proofs.KindLaw.{KindLaw, Lower}
 use Rattle.numbers.specs.Except

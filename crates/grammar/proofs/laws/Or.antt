@@ -10,10 +10,10 @@ use native.Mathlib.Omega.{arith}
 use lib.Dec.{eqb, ltb}
 use borrow.Author.Tests.{ltb-true, leb-true, eqb-true}
 use Rattle.numbers.specs.Size.{Size, finite, endless, Below, Some, plus}
-use Rattle.grammar.specs.Checks.{Fit, fits}
+use Rattle.grammar.specs.Checks.{fits}
+use Rattle.grammar.specs.Law.{Fit, Spells, Each, Down, flat, guarded, Lawful}
 use Rattle.grammar.proofs.Tests.{and-left, and-right}
 use Rattle.grammar.specs.Rule.{Item, own, reads, Rule}
-use Rattle.grammar.specs.Law.{Spells, Each, Down, flat, guarded, Lawful}
 use Rattle.grammar.proofs.Trees.{spell-done, spell-takes, spell-reads, read-pick, names-pick}
 use Rattle.grammar.proofs.KindLaw.{fit-some, KindLaw, Lower}
 use Rattle.numbers.specs.Or

@@ -8,18 +8,12 @@ use Rattle.numbers.specs.Pick.{pick}
 use Rattle.numbers.specs.Size.{finite}
 use Rattle.grammar.specs.Checks.{asks}
 use Rattle.grammar.specs.declared.refusal.Refusal.the-variants.{Range}
-use Rattle.grammar.specs.Rule.{own, done, fails, takes, Rule}
+use Rattle.grammar.specs.Rule.{done, fails, Rule, cellRule}
 use Rattle.grammar.specs.Kind.{Kind}
 
 -- "below, nats: cell n"; 15: "a number cell not below its count"
 unfoldable pub belowRule : ℕ → Rule
-belowRule a = record {
-  size = finite a;
-  items = λ n. own n ∷ [];
-  tree = takes (λ c. pick (ltb c a) (done c) fails);
-  steps = λ g. [];
-  skips = false;
-}
+belowRule a = cellRule (finite a) (λ n. n) (λ c. pick (ltb c a) (done c) fails)
 
 abbrev pub below : Kind
 below = record {

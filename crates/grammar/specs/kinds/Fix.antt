@@ -6,18 +6,12 @@ use Prim.Native.Nat.{ℕ}
 use Rattle.numbers.specs.Size.{endless}
 use Rattle.grammar.specs.Checks.{asks, isEndless}
 use Rattle.grammar.specs.declared.refusal.Refusal.the-variants.{Reference, UnsuitedPart}
-use Rattle.grammar.specs.Rule.{part, done, reads, Rule}
+use Rattle.grammar.specs.Rule.{Rule, partRule}
 use Rattle.grammar.specs.Kind.{Kind, lower}
 
 -- "fix: the body at n. again: its fix at n."
 unfoldable pub passRule : ℕ → Rule
-passRule a = record {
-  size = endless;
-  items = λ n. part a n 0 ∷ [];
-  tree = reads a 0 (λ m. done m);
-  steps = λ g. a ∷ [];
-  skips = false;
-}
+passRule a = partRule endless a 0
 
 abbrev pub fix : Kind
 fix = record {

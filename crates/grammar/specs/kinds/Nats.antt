@@ -3,18 +3,12 @@
 use mathlib.Core.Bool.{false}
 use mathlib.Core.List.{[], _∷_}
 use Rattle.numbers.specs.Size.{endless}
-use Rattle.grammar.specs.Rule.{own, done, takes, Rule}
+use Rattle.grammar.specs.Rule.{done, Rule, cellRule}
 use Rattle.grammar.specs.Kind.{Kind}
 
 -- "below, nats: cell n"
 unfoldable pub natsRule : Rule
-natsRule = record {
-  size = endless;
-  items = λ n. own n ∷ [];
-  tree = takes (λ c. done c);
-  steps = λ g. [];
-  skips = false;
-}
+natsRule = cellRule endless (λ n. n) (λ c. done c)
 
 abbrev pub nats : Kind
 nats = record { usesA = false; usesB = false; checks = λ v z. []; rule = λ a b p z. natsRule }

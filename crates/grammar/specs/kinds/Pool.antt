@@ -11,7 +11,7 @@ use Rattle.numbers.specs.Size.{finite}
 use Rattle.graph.specs.Ways.{has}
 use Rattle.grammar.specs.Checks.{asks, within, different}
 use Rattle.grammar.specs.declared.refusal.Refusal.the-variants.{Range, Repeat}
-use Rattle.grammar.specs.Rule.{own, done, fails, takes, Rule}
+use Rattle.grammar.specs.Rule.{done, fails, Rule, cellRule}
 use Rattle.grammar.specs.Kind.{Kind}
 
 unfoldable pub placeOf : ℕ → List ℕ → ℕ
@@ -20,13 +20,7 @@ placeOf c (w ∷ ws) = pick (eqb c w) 0 (suc (placeOf c ws))
 
 -- ws are the b words from place a on. "pool: the word at place+n"; 15: "a pool word not listed"
 unfoldable pub poolRule : List ℕ → ℕ → Rule
-poolRule ws b = record {
-  size = finite b;
-  items = λ n. own (getD ws n 0) ∷ [];
-  tree = takes (λ c. pick (has c ws) (done (placeOf c ws)) fails);
-  steps = λ g. [];
-  skips = false;
-}
+poolRule ws b = cellRule (finite b) (λ n. getD ws n 0) (λ c. pick (has c ws) (done (placeOf c ws)) fails)
 
 abbrev pub pool : Kind
 pool = record {

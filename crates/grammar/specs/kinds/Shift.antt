@@ -7,18 +7,12 @@ use lib.Dec.{eqb, leb}
 use Rattle.numbers.specs.Size.{Size}
 use Rattle.grammar.specs.Checks.{asks}
 use Rattle.grammar.specs.declared.refusal.Refusal.the-variants.{Reference, Range, UnsuitedPart}
-use Rattle.grammar.specs.Rule.{part, done, reads, Rule}
+use Rattle.grammar.specs.Rule.{Rule, partRule}
 use Rattle.grammar.specs.Kind.{Kind, lower}
 
 -- "shift: the part's cell plus k"
 unfoldable pub shiftRule : Size → ℕ → ℕ → Rule
-shiftRule s a k = record {
-  size = s;
-  items = λ n. part a n k ∷ [];
-  tree = reads a k (λ m. done m);
-  steps = λ g. a ∷ [];
-  skips = false;
-}
+shiftRule s a k = partRule s a k
 
 abbrev pub shift : Kind
 shift = record {
