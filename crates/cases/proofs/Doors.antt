@@ -12,7 +12,6 @@ use lib.ListN.{length}
 use borrow.Author.Tests.{lt-ltb, ltb-true}
 use Rattle.numbers.specs.Pick.{pick}
 use Rattle.grammar.specs.Table.{nodes}
-use Rattle.grammar.specs.Sizes.{sizeAt, sizes}
 use Rattle.grammar.specs.Verdict.{verdict}
 use Rattle.grammar.specs.declared.refusal.Refusal.the-variants.{NotACase, NumberTooLarge}
 use Rattle.grammar.specs.declared.refusal.Verdict.the-variants.{Accepted}

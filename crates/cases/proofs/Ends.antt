@@ -10,7 +10,6 @@ use Rattle.numbers.specs.Size.{Size, Below}
 use Rattle.graph.specs.Paths.{Decides}
 use Rattle.grammar.specs.Table.{nodes}
 use Rattle.grammar.specs.Sizes.{sizeAt, sizes, rulesOf}
-use Rattle.grammar.specs.Checked.{Checked}
 use Rattle.grammar.specs.Steps.{Leads, Step, Unguarded, ExceptOnCycle}
 use Rattle.grammar.specs.Verdict.{leads, verdict}
 use Rattle.grammar.specs.declared.refusal.Verdict.the-variants.{Accepted}

@@ -3,21 +3,20 @@
 --   met-below, met-beyond, met-wrong   by the word that the walk handed back
 --   stood-number, stood-large, stood-wrong   by what was met, and 16
 -- Assumes nothing.
-use mathlib.Core.Path.{_≡_, refl, sym, subst, ap, _∙_}
+use mathlib.Core.Path.{_≡_, sym, subst, ap, _∙_}
 use mathlib.Core.Logic.{⊎-elim}
-use mathlib.Core.List.{List, [], _∷_, _++_, map}
-use Prim.Native.Nat.{ℕ, zero, suc, _+_, _-_, _^_, _≤_, _<_}
+use mathlib.Core.List.{List}
+use Prim.Native.Nat.{ℕ, _+_, _-_, _^_, _≤_, _<_}
 use native.Mathlib.Omega.{arith}
 use lib.Dec.{leb}
 use lib.ListN.{length, take, drop, length-append, length-take, length-drop, length-map}
 use lib.Seq.{drop-drop, take-all, take-length}
 use borrow.Author.Tests.{lt-ltb, le-ltb}
-use Rattle.numbers.specs.Joined.{limit}
 use Rattle.graph.proofs.Marks.{le-or-lt}
 use Rattle.grammar.specs.declared.refusal.Refusal.{Refusal}
 use Rattle.grammar.specs.declared.refusal.Refusal.the-variants.{NumberTooLarge}
 use Rattle.grammar.specs.Plan.{sizeIn, ruleIn}
-use Rattle.walk.specs.Walk.{Event, cell, walk, depth}
+use Rattle.walk.specs.Walk.{cell, walk, depth}
 use Rattle.walk.specs.Room.{most}
 use Rattle.walk.specs.Run.{Read, read, wrong, run}
 use Rattle.walk.specs.Took.{whyOf, Took, exact, large, stops, Taken}

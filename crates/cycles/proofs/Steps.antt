@@ -9,7 +9,7 @@ use mathlib.Core.Path.{_≡_, refl, sym, subst, ap, _∙_}
 use mathlib.Core.Bool.{Bool, true, false, _&&_}
 use mathlib.Core.Logic.{⊎-elim}
 use mathlib.Core.List.{List, [], _∷_, _++_, List·Memᴰ, List·Memᴰ·head, List·Memᴰ·tail, List·Memᴰ·cases-cons, List·Memᴰ·not-nil}
-use Prim.Native.Nat.{ℕ, zero, suc, _+_, _*_, _≤_, _<_}
+use Prim.Native.Nat.{ℕ, zero, suc, _+_, _≤_, _<_}
 use native.Mathlib.Nat.{not-suc-le-zero, le-of-suc-le-suc}
 use native.Mathlib.Omega.{arith}
 use lib.ListN.{length, getD, take, drop, List·getD-eq-default}
@@ -20,7 +20,6 @@ use Rattle.graph.proofs.Marks.{le-or-lt}
 use Rattle.grammar.specs.Table.{kindOf, nodes}
 use Rattle.grammar.specs.Checks.{every}
 use Rattle.grammar.specs.Law.{Under}
-use Rattle.grammar.specs.Nodes.{ruleAt}
 use Rattle.grammar.specs.Steps.{stepsOf, Step}
 use Rattle.grammar.specs.Checked.{Checked}
 use Rattle.grammar.specs.Plan.{sizeIn, Ready}

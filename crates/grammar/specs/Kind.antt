@@ -5,14 +5,13 @@
 --   before   the sizes of the nodes below n: a row looks at no others
 --   spare    "a word not used is zero"
 -- Assumes nothing.
-use mathlib.Core.Path.{_≡_}
-use mathlib.Core.Bool.{Bool, true, _&&_, _||_}
-use mathlib.Core.List.{List, [], _∷_}
+use mathlib.Core.Bool.{Bool, _&&_, _||_}
+use mathlib.Core.List.{List}
 use Prim.Native.Nat.{ℕ}
 use lib.Dec.{eqb, ltb}
 use Rattle.numbers.specs.Pick.{pick}
 use Rattle.numbers.specs.Size.{Size, finite}
-use Rattle.grammar.specs.Checks.{Check, asks}
+use Rattle.grammar.specs.Checks.{Check}
 use Rattle.grammar.specs.Rule.{Rule}
 
 pub record Node : Type 0 where

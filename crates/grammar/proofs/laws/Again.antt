@@ -5,7 +5,6 @@ use mathlib.Core.Bool.{_&&_}
 use lib.Dec.{ltb}
 use borrow.Author.Tests.{ltb-true, eqb-true}
 use Rattle.grammar.proofs.Tests.{and-left, and-right}
-use Rattle.grammar.specs.Rule.{own}
 use Rattle.grammar.proofs.KindLaw.{KindLaw}
 use Rattle.grammar.specs.kinds.Fix.{passRule}
 use Rattle.grammar.specs.kinds.Again.{again}

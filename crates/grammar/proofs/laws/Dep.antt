@@ -14,7 +14,7 @@ use Rattle.numbers.specs.Size.{Size, finite, endless, Below, Some, plus}
 use Rattle.grammar.specs.Checks.{fits, isEndless}
 use Rattle.grammar.specs.Law.{Fit, Under, flat, Lawful, Holds}
 use Rattle.grammar.proofs.Tests.{and-left, and-right}
-use Rattle.grammar.specs.Rule.{own, reads}
+use Rattle.grammar.specs.Rule.{reads}
 use Rattle.grammar.specs.Kind.{Node, before}
 use Rattle.grammar.proofs.KindLaw.{fit-some, KindLaw, Lower}
 use mathlib.Core.List.{List·Memᴰ}

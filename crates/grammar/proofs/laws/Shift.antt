@@ -9,7 +9,7 @@ use native.Mathlib.Nat.{le-refl}
 use native.Mathlib.Omega.{arith}
 use borrow.Author.Tests.{ltb-true}
 use Rattle.numbers.specs.Size.{Size}
-use Rattle.grammar.specs.Rule.{own, done, reads}
+use Rattle.grammar.specs.Rule.{done, reads}
 use Rattle.grammar.specs.Law.{flat, Lawful}
 use Rattle.grammar.proofs.Trees.{spell-done, spell-reads}
 use Rattle.grammar.proofs.KindLaw.{KindLaw, Lower}

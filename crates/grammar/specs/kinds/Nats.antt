@@ -1,7 +1,7 @@
 -- 1 nats | none | both zero (3) | endless
 -- Assumes nothing.
 use mathlib.Core.Bool.{false}
-use mathlib.Core.List.{[], _∷_}
+use mathlib.Core.List.{[]}
 use Rattle.numbers.specs.Size.{endless}
 use Rattle.grammar.specs.Rule.{done, Rule, cellRule}
 use Rattle.grammar.specs.Kind.{Kind}

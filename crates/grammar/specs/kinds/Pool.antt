@@ -1,7 +1,7 @@
 -- 2 pool | place, count | 1 <= b <= 4,096 and a+b within the pool (5); words all different (6) | b
 --   placeOf   the place of a word among words
 -- Assumes nothing.
-use mathlib.Core.Bool.{true, false, _&&_}
+use mathlib.Core.Bool.{true, _&&_}
 use mathlib.Core.List.{List, [], _∷_}
 use Prim.Native.Nat.{ℕ, suc}
 use lib.Dec.{eqb, leb}

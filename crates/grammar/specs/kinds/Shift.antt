@@ -1,6 +1,6 @@
 -- 3 shift | node, k | a lower (4); k <= 2^32 (5); node a of kind 0, 1 or 3 (7) | of a
 -- Assumes nothing.
-use mathlib.Core.Bool.{true, false, _||_}
+use mathlib.Core.Bool.{true, _||_}
 use mathlib.Core.List.{[], _∷_}
 use Prim.Native.Nat.{ℕ, _^_}
 use lib.Dec.{eqb, leb}

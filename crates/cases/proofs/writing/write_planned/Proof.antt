@@ -2,7 +2,7 @@
 -- Assumes nothing.
 use borrow.Author.Needs.{needs}
 use native.Mathlib.Omega.{arith}
-use Rattle.checked.proofs.Walking.{walkable, stands-at}
+use Rattle.checked.proofs.Walking.{stands-at}
 use Rattle.cases.proofs.writing.Laws.{case-long, settled-cells, settled-sure, wrote-11, wrote-not, wrote-case}
 use Rattle.cases.proofs.writing.write_planned.Statement.{statement}
 use Rattle.cases.proofs.writing.write_planned.Tie as tie

@@ -1,6 +1,5 @@
 -- `cycles::safety::all_settled` settles the nodes, rising.
 -- Assumes nothing.
-use borrow.Author.Needs.{needs}
 use mathlib.Core.Bool.{false≢true}
 use Prim.Native.Nat.{_-_}
 use native.Mathlib.Omega.{arith}

@@ -1,7 +1,6 @@
 -- `grammar::steps::skips` says which kinds are excepts.
 -- Assumes nothing.
 use mathlib.Core.Path.{ap, sym}
-use native.Mathlib.Omega.{arith}
 use Rattle.grammar.specs.Kind.{Kind}
 use Rattle.grammar.specs.kinds.Below.{belowRule}
 use Rattle.grammar.specs.kinds.Nats.{natsRule}

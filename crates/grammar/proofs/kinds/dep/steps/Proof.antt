@@ -1,7 +1,5 @@
 -- `grammar::kinds::dep::steps` names the first part and each second.
 -- Assumes nothing.
-use mathlib.Core.Path.{refl}
-use borrow.Author.Needs.{needs}
 use native.Mathlib.Omega.{arith}
 use Rattle.grammar.specs.Named.{named}
 use Rattle.grammar.proofs.kinds.dep.steps.Statement.{statement}
