@@ -14,7 +14,7 @@ use checked::prepared::SMALL_PLAN;
 use checked::prepared::prepare;
 use grammar::refusal::Refusal;
 use grammar::refusal::Verdict;
-use walk::sure::sure;
+use laying::sure::sure;
 
 // The count of cells, or the refusal and its node.
 pub enum Written {

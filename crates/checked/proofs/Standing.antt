@@ -19,7 +19,7 @@ use Rattle.grammar.specs.Plan.{sizeIn, ruleIn}
 use Rattle.walk.specs.Walk.{cell, walk, depth}
 use Rattle.walk.specs.Room.{most}
 use Rattle.walk.specs.Run.{Read, read, wrong, run}
-use Rattle.walk.specs.Took.{whyOf, Took, exact, large, stops, Taken}
+use Rattle.taking.specs.Took.{whyOf, Took, exact, large, stops, Taken}
 use Rattle.walk.specs.Plan.{Reading}
 use Rattle.walk.proofs.Only.{only}
 use Rattle.walk.proofs.Ends.{walk-some}

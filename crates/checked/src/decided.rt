@@ -9,7 +9,7 @@ use super::fits::asked;
 use super::fits::fit_of;
 use super::fits::room_for;
 use grammar::refusal::Refusal;
-use walk::tally::tally;
+use laying::tally::tally;
 
 // "12, then the walk with the room left"
 pub fn decided(plan: &[u64], pool: &[u64], start: usize, number: u64, room: usize) -> Fit

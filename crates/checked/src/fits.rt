@@ -8,9 +8,9 @@ ghost use Rattle.walk.specs.Plan.{Reading};
 ghost use Rattle.checked.specs.Fits.{roomFor, outcome, FitOver};
 ghost use Rattle.checked.specs.Fits.{asked as isAsked};
 use grammar::refusal::Refusal;
+use laying::lay::lay;
+use laying::tally::TOO_DEEP;
 use numbers::size::LARGEST;
-use walk::lay::lay;
-use walk::tally::TOO_DEEP;
 
 // "Depth is at most 200. A case has at most 65,536 cells"
 pub const DEPTH: usize = 200;

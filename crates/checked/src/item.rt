@@ -6,7 +6,7 @@ ghost use Rattle.grammar.specs.Plan.{ruleIn};
 ghost use Rattle.walk.specs.Walk.{depth};
 ghost use Rattle.walk.specs.Room.{most};
 ghost use Rattle.walk.specs.Run.{run};
-ghost use Rattle.walk.specs.Took.{whyOf};
+ghost use Rattle.taking.specs.Took.{whyOf};
 ghost use Rattle.walk.specs.Plan.{Reading};
 ghost use Rattle.checked.specs.Item.{front, Stood};
 ghost use Rattle.checked.specs.Met.{Met};
@@ -15,10 +15,10 @@ use super::fits::MOST_CELLS;
 use super::fits::room_for;
 use grammar::refusal::Refusal;
 use numbers::size::LARGEST;
-use walk::take::BIG;
-use walk::take::DEEP;
-use walk::take::UNFIT;
-use walk::take::take;
+use taking::take::BIG;
+use taking::take::DEEP;
+use taking::take::UNFIT;
+use taking::take::take;
 
 // A number below 2^62 and the place after its cells; a larger one, and that place; why nothing is read.
 pub enum Got {

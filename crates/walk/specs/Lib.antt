@@ -4,6 +4,4 @@ pub mod Run
 pub mod Room
 pub mod Filled
 pub mod Laid
-pub mod Took
 pub mod Plan
-pub mod Sure

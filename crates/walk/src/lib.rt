@@ -1,5 +1,1 @@
-// The walks over a plan: from a number to cells, and from cells to a number.
-pub mod lay;
-pub mod sure;
-pub mod take;
-pub mod tally;
+// The walks over rules, whatever their kinds: what they are, and what follows from the law. Their code stands above, in `laying` and `taking`.

@@ -20,7 +20,7 @@ use Rattle.grammar.specs.declared.refusal.Verdict.the-variants.{Accepted, Refus
 use Rattle.grammar.specs.Rule.{Rule}
 use Rattle.grammar.specs.Plan.{ruleIn}
 use Rattle.walk.specs.Walk.{walk, cells, depth}
-use Rattle.walk.specs.Sure.{Sure}
+use Rattle.laying.specs.Sure.{Sure}
 use Rattle.checked.specs.Prepared.{Planning, Prepared}
 use Rattle.checked.specs.Fits.{asked, roomFor, fitted, FitOver}
 use Rattle.checked.specs.declared.fits.Fit.{Fit}

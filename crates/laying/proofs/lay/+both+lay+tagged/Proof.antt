@@ -1,0 +1,311 @@
+-- `laying::lay::lay` is the writing walk over a buffer that is its own room; `tagged` a tag and a part, `both` two parts.
+-- The measure is twice the depth left, and one more for those two. Each arm is one law of its shape, at its kind's items.
+-- Assumes nothing.
+use mathlib.Core.Path.{refl}
+use Prim.Native.Nat.{ℕ, _+_, _*_, _<_}
+use native.Mathlib.Omega.{arith}
+use borrow.Author.Needs.{needs}
+use borrow.Fn.Kinds.{In}
+use borrow.Fn.PlainCycle.{Measures, is, falls, and}
+use lib.ListN.{length-set}
+use Rattle.walk.proofs.Rooms.{tallied-deep, left-within}
+use Rattle.laying.proofs.Lays.{lent-most, lent-set, laid-deep, laid-none, laid-stops, laid-two, laid-tag}
+use Rattle.walk.proofs.Visit.{walk-deep, walk-cell, walk-word, walk-pass, walk-same, walk-tag, walk-two, visited, next-by}
+use Rattle.walk.proofs.Nodes.{in-plan, known, shift-small, shift-raised, or-lower, cons-lower, parts-in, words-some, raised-none, raised-zero}
+use Rattle.walk.proofs.Deps.{dep-in}
+use Rattle.walk.proofs.Items.{
+  below-items,
+  nats-items,
+  pool-items,
+  pool-place,
+  shift-items,
+  or-first,
+  or-second,
+  cons-items,
+  dep-items,
+  dep-place,
+  except-items,
+  fix-items,
+  again-items,
+}
+use Rattle.laying.proofs.Calls.{laid-by, lay-part, lay-shift, lay-tagged, lay-both}
+use Rattle.laying.proofs.lay.both.Reads as both
+use Rattle.laying.proofs.lay.both.Kinds as both-kinds
+use Rattle.laying.proofs.lay.+both+lay+tagged.Lts-both as both-lts
+use Rattle.laying.proofs.lay.lay.Reads as lay
+use Rattle.laying.proofs.lay.lay.Kinds as lay-kinds
+use Rattle.laying.proofs.lay.+both+lay+tagged.Lts-lay as lay-lts
+use Rattle.laying.proofs.lay.tagged.Reads as tagged
+use Rattle.laying.proofs.lay.tagged.Kinds as tagged-kinds
+use Rattle.laying.proofs.lay.+both+lay+tagged.Lts-tagged as tagged-lts
+use Rattle.grammar.proofs.kinds.cons.split.Reads as cons-split-reads
+use Rattle.grammar.proofs.kinds.dep.parts.Reads as parts-reads
+use Rattle.grammar.proofs.kinds.or.split.Reads as or-split-reads
+use Rattle.numbers.proofs.except.split.Reads as except-split-reads
+use Rattle.laying.proofs.lay.put.Reads as put-reads
+use Rattle.laying.proofs.lay.+both+lay+tagged.{statement}
+use Rattle.laying.proofs.lay.+both+lay+tagged.Tie.{close}
+
+abbrev μ-both : Measures 5 both-kinds.ps ℕ
+μ-both κs a = 2 * a .1 .1 .1 .1 .1 .1 .0 + 1
+
+abbrev μ-lay : Measures 5 lay-kinds.ps ℕ
+μ-lay κs a = 2 * a .1 .1 .1 .1 .1 .0
+
+abbrev μ-tagged : Measures 5 tagged-kinds.ps ℕ
+μ-tagged κs a = 2 * a .1 .1 .1 .1 .1 .0 + 1
+
+module _ (t : ℕ) where
+  abbrev both-at : In 5 both-kinds.ps
+  both-at = and 5 both-kinds.ps (is 5 both-kinds.ps μ-both t) both.Pre
+
+  abbrev both-below : In 5 both-kinds.ps
+  both-below = and 5 both-kinds.ps (falls 5 both-kinds.ps _<_ μ-both t) both.Pre
+
+  abbrev tagged-at : In 5 tagged-kinds.ps
+  tagged-at = and 5 tagged-kinds.ps (is 5 tagged-kinds.ps μ-tagged t) tagged.Pre
+
+  abbrev tagged-below : In 5 tagged-kinds.ps
+  tagged-below = and 5 tagged-kinds.ps (falls 5 tagged-kinds.ps _<_ μ-tagged t) tagged.Pre
+
+  abbrev lay-at : In 5 lay-kinds.ps
+  lay-at = and 5 lay-kinds.ps (is 5 lay-kinds.ps μ-lay t) lay.Pre
+
+  abbrev lay-below : In 5 lay-kinds.ps
+  lay-below = and 5 lay-kinds.ps (falls 5 lay-kinds.ps _<_ μ-lay t) lay.Pre
+
+  abbrev calls : lay-lts.Claims
+  calls = (
+    put-reads.Asked,
+    put-reads.Learnt,
+    lay-below,
+    lay.Post,
+    or-split-reads.Asked,
+    or-split-reads.Learnt,
+    tagged-below,
+    tagged.Post,
+    cons-split-reads.Asked,
+    cons-split-reads.Learnt,
+    both-below,
+    both.Post,
+    parts-reads.Asked,
+    parts-reads.Learnt,
+    except-split-reads.Asked,
+    except-split-reads.Learnt,
+  )
+
+  -- the first part's walk, and then the second's over what is left; and a tag, and then a part's
+  both-two : both-lts.Need-returns-2 (lay-below, lay.Post) both-at both.Post
+  both-two c =
+      let h = c .before .before .before .before in
+      laid-two (h .before .before .before .lay .ensures) (h .if1 .left) refl (c .before .before .lay2 .ensures) refl
+
+  tagged-one : tagged-lts.Need-returns-2 (lay-below, lay.Post) tagged-at tagged.Post
+  tagged-one c =
+      let h = c .before .before .before .before in
+      laid-tag _ _ (h .if1 .left) (h .before .before .pre .1 .1 .2) (c .before .before .lay .ensures) refl
+
+pub +both+lay+tagged-spec : {M : Type 1} → statement M
++both+lay+tagged-spec = close μ-both μ-lay μ-tagged
+    (λ t. both-lts.spec (lay-below t, lay.Post) (both-at t) both.Post
+    (λ c κs. let at-pre = c .before .before in let p = at-pre .pre in (
+      omega (arith, p .0),
+      ((p .1 .0 .0, raised-zero _ _), (p .1 .1 .0, omega (arith, p .1 .1 .2), p .1 .1 .2, p .1 .1 .3)),
+    ))
+    (λ c. c .before .before .before .lay .ensures .long)
+    (λ c. laid-stops _ (c .before .before .before .lay .ensures) (c .if1 .taken))
+    (λ c. let at-lay = c .before .before .before in let at-pre = at-lay .before .before .before in omega (
+      arith,
+      left-within _
+          (at-lay .lay .ensures .is) (c .if1 .left),
+      at-lay .lay .ensures .long,
+      at-pre .pre .1 .1 .3,
+    ))
+    (λ c. let at-lay = c .before .before .before in let at-pre = at-lay .before .before .before in omega (
+      arith,
+      left-within _
+          (at-lay .lay .ensures .is) (c .if1 .left),
+      at-lay .lay .ensures .long,
+      at-pre .pre .1 .1 .3,
+    ))
+    (λ c. let at-lay = c .before .before .before in let at-pre = at-lay .before .before .before in omega (
+      arith,
+      left-within _
+          (at-lay .lay .ensures .is) (c .if1 .left),
+      at-lay .lay .ensures .long,
+      at-pre .pre .1 .1 .3,
+    ))
+    (λ c. let at-lay = c .before .before .before in let at-pre = at-lay .before .before .before in omega (
+      arith,
+      left-within _
+          (at-lay .lay .ensures .is) (c .if1 .left),
+      at-lay .lay .ensures .long,
+      at-pre .pre .1 .1 .3,
+    ))
+    (λ c. let at-lay = c .before .before .before in let at-pre = at-lay .before .before .before in omega (
+      arith,
+      left-within _
+          (at-lay .lay .ensures .is) (c .if1 .left),
+      at-lay .lay .ensures .long,
+      at-pre .pre .1 .1 .3,
+    ))
+    (λ c κs. let at-lay = c .before .before .before .before in let at-pre = at-lay .before .before .before in let p = at-pre .pre in (
+      omega
+          (arith, p .0),
+      (
+        (p .1 .0 .1, raised-zero _ _),
+        (p .1 .1 .1, omega (arith, p .1 .1 .2), p .1 .1 .2, lent-most _ (at-lay .lay .ensures) (p .1 .1 .3)),
+      ),
+    ))
+    (λ c. both-two t c .long)
+    (λ c. both-two t c))
+    (λ t. lay-lts.spec (calls t) (lay-at t) lay.Post
+    (λ c. laid-by (walk-deep _ _ _ _ (c .if1 .taken)) (laid-deep refl (tallied-deep _)))
+    (λ c. let q = in-plan (visited (c .before .before .before .pre .1 .0 .0)) in omega (arith, q .0, q .1))
+    (λ c. let q = in-plan (visited (c .before .before .before .pre .1 .0 .0)) in omega (arith, q .0, q .1))
+    (λ c. let q = in-plan (visited (c .before .before .before .before .pre .1 .0 .0)) in omega (arith, q .0, q .1))
+    (λ c. let q = in-plan (visited (c .before .before .before .before .pre .1 .0 .0)) in omega (arith, q .0, q .1))
+    (λ c. let q = in-plan (visited (c .before .before .before .before .pre .1 .0 .0)) in omega (arith, q .0, q .1))
+    (λ c. let q = in-plan (visited (c .before .before .before .before .pre .1 .0 .0)) in omega (arith, q .0, q .1))
+    (λ c. let q = in-plan (visited (c .before .before .before .before .before .pre .1 .0 .0)) in omega (arith, q .0, q .1))
+    (λ c. let q = in-plan (visited (c .before .before .before .before .before .pre .1 .0 .0)) in omega (arith, q .0, q .1))
+    (λ c. let q = in-plan (visited (c .before .before .before .before .before .pre .1 .0 .0)) in omega (arith, q .0, q .1))
+    (λ c. let q = in-plan (visited (c .before .before .before .before .before .pre .1 .0 .0)) in omega (arith, q .0, q .1))
+    (λ c. let q = in-plan (visited (c .before .before .before .before .before .before .pre .1 .0 .0)) in omega (arith, q .0, q .1))
+    (λ c. let h = c .before .before .before .before .before .before .before .pre .1 .1 in omega (arith, h .0, h .1))
+    (λ c κs. c .before .before .before .before .before .before .before .before .pre .1 .1 .3)
+    (λ c. let h = c .before .before .before .before .before .before .before .pre .1 .1 in omega (arith, h .0, h .1))
+    (λ c κs. c .before .before .before .before .before .before .before .before .pre .1 .1 .3)
+    (λ c. let at-match = c .before in let at-pre = at-match .before .before .before .before .before .before .before in
+    let q = pool-place (at-pre .pre .1 .0 .0) (at-match .match .keys3) in omega (arith, q .0, q .1))
+    (λ c. let at-match = c .before in let at-pre = at-match .before .before .before .before .before .before .before in
+    let q = pool-place (at-pre .pre .1 .0 .0) (at-match .match .keys3) in omega (arith, q .0, q .1))
+    (λ c. let at-match = c .before .before in let at-pre = at-match .before .before .before .before .before .before .before in
+    let q = pool-place (at-pre .pre .1 .0 .0) (at-match .match .keys3) in omega (arith, q .0, q .1))
+    (λ c κs. c .before .before .before .before .before .before .before .before .before .before .pre .1 .1 .3)
+    (λ c. let at-pre = c .before .before .before .before .before .before .before in let h = at-pre .pre .1 .1 in omega
+    (arith, h .1, shift-small (visited (at-pre .pre .1 .0 .0)) (c .match .keys4)))
+    (λ c. omega (arith, c .before .before .before .before .before .if1 .left))
+    (λ c κs. let at-match = c .before in let k = at-match .match .keys4 in let at-if1 = at-match .before .before .before .before .before in
+    let at-pre = at-if1 .before .before in let v = at-pre .pre .1 .0 .0 in lay-shift _ (at-pre .pre .0) (at-if1 .if1 .left)
+    (at-pre .pre .1 .1) (next-by v (shift-items v k) .0) (shift-raised (visited v) k _) (shift-small (visited v) k))
+    (λ c κs. let at-pre = c .before .before .before .before .before .before .before in let v = at-pre .pre .1 .0 .0 in parts-in (visited v)
+    (or-lower (visited v) (c .match .keys5)))
+    (λ c. search needs)
+    (λ c. omega (arith, c .before .before .before .before .before .before .before .before .before .if1 .left))
+    (λ c κs. let at-m = c .before .before in let at-split = at-m .before .before in let at-match = at-split .before in
+    let at-if1 = at-match .before .before .before .before .before in let at-pre = at-if1 .before .before in let v = at-pre .pre .1 .0 .0 in
+    lay-tagged _ (at-pre .pre .0) (at-if1 .if1 .left) (at-pre .pre .1 .1)
+    (next-by v (or-first v (at-match .match .keys5) (at-split .split .ensures) (at-m .m .given .1)) .0))
+    (λ c. search needs)
+    (λ c. omega (arith, c .before .before .before .before .before .before .before .before .before .if1 .left))
+    (λ c κs. let at-m2 = c .before .before in let at-split = at-m2 .before .before in let at-match = at-split .before in
+    let at-if1 = at-match .before .before .before .before .before in let at-pre = at-if1 .before .before in let v = at-pre .pre .1 .0 .0 in
+    lay-tagged _ (at-pre .pre .0) (at-if1 .if1 .left) (at-pre .pre .1 .1)
+    (next-by v (or-second v (at-match .match .keys5) (at-split .split .ensures) (at-m2 .m2 .given .1)) .0))
+    (λ c κs. let at-pre = c .before .before .before .before .before .before .before in let v = at-pre .pre .1 .0 .0 in
+    let l = cons-lower (visited v) (c .match .keys6) in (parts-in (visited v) l, words-some (visited v) l))
+    (λ c. omega (arith, c .before .before .before .before .before .before .if1 .left))
+    (λ c κs. let at-split2 = c .before in let at-match = at-split2 .before in
+    let at-if1 = at-match .before .before .before .before .before in let at-pre = at-if1 .before .before in let v = at-pre .pre .1 .0 .0 in
+    let n = next-by v (cons-items v (at-match .match .keys6) (at-split2 .split2 .ensures)) in lay-both _ (at-pre .pre .0)
+    (at-if1 .if1 .left) (at-pre .pre .1 .1) (n .0) (n .1 .0))
+    (λ c κs. dep-in (visited (c .before .before .before .before .before .before .before .before .pre .1 .0 .0)) (c .before .match .keys7))
+    (λ c. let at-match = c .before .before in let at-pre = at-match .before .before .before .before .before .before .before in
+    let q = dep-place (at-pre .pre .1 .0 .0) (at-match .match .keys7) (c .parts .ensures) in omega (arith, q .0, q .1))
+    (λ c. let at-match = c .before .before in let at-pre = at-match .before .before .before .before .before .before .before in
+    let q = dep-place (at-pre .pre .1 .0 .0) (at-match .match .keys7) (c .parts .ensures) in omega (arith, q .0, q .1))
+    (λ c. let at-parts = c .before in let at-match = at-parts .before .before in
+    let at-pre = at-match .before .before .before .before .before .before .before in
+    let q = dep-place (at-pre .pre .1 .0 .0) (at-match .match .keys7) (at-parts .parts .ensures) in omega (arith, q .0, q .1))
+    (λ c. omega (arith, c .before .before .before .before .before .before .before .before .if1 .left))
+    (λ c κs. let at-parts = c .before .before in let at-match = at-parts .before .before in
+    let at-if1 = at-match .before .before .before .before .before in let at-pre = at-if1 .before .before in let v = at-pre .pre .1 .0 .0 in
+    let n = next-by v (dep-items v (at-match .match .keys7) (at-parts .parts .ensures)) in lay-both _ (at-pre .pre .0) (at-if1 .if1 .left)
+    (at-pre .pre .1 .1) (n .0) (n .1 .0))
+    (λ c κs. omega (arith, c .before .before .before .before .before .before .before .pre .1 .1 .0))
+    (λ c. omega (arith, c .before .before .before .before .before .before .if1 .left))
+    (λ c κs. let at-split3 = c .before in let at-match = at-split3 .before in let at-if1 = at-match .before .before .before .before .before in
+    let at-pre = at-if1 .before .before in let v = at-pre .pre .1 .0 .0 in lay-part _ (at-pre .pre .0) (at-if1 .if1 .left) (at-pre .pre .1 .1)
+    (next-by v (except-items v (at-match .match .keys8) (at-split3 .split3 .ensures)) .0))
+    (λ c. omega (arith, c .before .before .before .before .before .if1 .left))
+    (λ c κs. let at-match = c .before in let at-if1 = at-match .before .before .before .before .before in
+    let at-pre = at-if1 .before .before in let v = at-pre .pre .1 .0 .0 in lay-part _ (at-pre .pre .0) (at-if1 .if1 .left) (at-pre .pre .1 .1)
+    (next-by v (fix-items v (at-match .match .keys9)) .0))
+    (λ c. omega (arith, c .before .before .before .before .before .if1 .left))
+    (λ c κs. let at-match = c .before in let at-if1 = at-match .before .before .before .before .before in
+    let at-pre = at-if1 .before .before in let v = at-pre .pre .1 .0 .0 in lay-part _ (at-pre .pre .0) (at-if1 .if1 .left) (at-pre .pre .1 .1)
+    (next-by v (again-items v (at-match .match .keys10)) .0))
+    (λ c. c .before .before .put .ensures .long)
+    (λ c. let at-put = c .before .before in let at-match = at-put .before .before in
+    let at-if1 = at-match .before .before .before .before .before in let at-pre = at-if1 .before .before in laid-by
+    (walk-cell _ _ _ _ (at-if1 .if1 .left) (below-items (at-pre .pre .1 .0 .0) (at-match .match .keys1)) refl) (at-put .put .ensures))
+    (λ c. c .before .before .put2 .ensures .long)
+    (λ c. let at-put2 = c .before .before in let at-match = at-put2 .before .before in
+    let at-if1 = at-match .before .before .before .before .before in let at-pre = at-if1 .before .before in laid-by
+    (walk-cell _ _ _ _ (at-if1 .if1 .left) (nats-items (at-pre .pre .1 .0 .0) (at-match .match .keys2)) refl) (at-put2 .put2 .ensures))
+    (λ c. c .before .before .put3 .ensures .long)
+    (λ c. let at-put3 = c .before .before in let at-match = at-put3 .before .before .before .before in let k = at-match .match .keys3 in
+    let at-if1 = at-match .before .before .before .before .before in let at-pre = at-if1 .before .before in laid-by (walk-word _ _ _ _
+    (at-if1 .if1 .left) (pool-items (at-pre .pre .1 .0 .0) k) (raised-none (at-pre .pre .1 .0 .1) k refl)) (at-put3 .put3 .ensures))
+    (λ c. c .before .before .lay .ensures .long)
+    (λ c. let at-lay = c .before .before in let at-match = at-lay .before .before in
+    let at-if1 = at-match .before .before .before .before .before in let at-pre = at-if1 .before .before in laid-by
+    (walk-pass _ _ _ _ (at-if1 .if1 .left) (shift-items (at-pre .pre .1 .0 .0) (at-match .match .keys4)) refl) (at-lay .lay .ensures))
+    (λ c. c .before .before .tagged .ensures .long)
+    (λ c. let at-tagged = c .before .before in let at-m = at-tagged .before .before .before in let at-split = at-m .before .before in
+    let at-match = at-split .before in let k = at-match .match .keys5 in let at-if1 = at-match .before .before .before .before .before in
+    let at-pre = at-if1 .before .before in laid-by (walk-tag _ _ _ _ (at-if1 .if1 .left)
+    (or-first (at-pre .pre .1 .0 .0) k (at-split .split .ensures) (at-m .m .given .1)) (raised-none (at-pre .pre .1 .0 .1) k refl))
+    (at-tagged .tagged .ensures))
+    (λ c. c .before .before .tagged2 .ensures .long)
+    (λ c. let at-tagged2 = c .before .before in let at-m2 = at-tagged2 .before .before .before in let at-split = at-m2 .before .before in
+    let at-match = at-split .before in let k = at-match .match .keys5 in let at-if1 = at-match .before .before .before .before .before in
+    let at-pre = at-if1 .before .before in laid-by (walk-tag _ _ _ _ (at-if1 .if1 .left)
+    (or-second (at-pre .pre .1 .0 .0) k (at-split .split .ensures) (at-m2 .m2 .given .1)) (raised-none (at-pre .pre .1 .0 .1) k refl))
+    (at-tagged2 .tagged2 .ensures))
+    (λ c. c .before .before .both .ensures .long)
+    (λ c. let at-both = c .before .before in let at-split2 = at-both .before .before in let at-match = at-split2 .before in
+    let k = at-match .match .keys6 in let at-if1 = at-match .before .before .before .before .before in let at-pre = at-if1 .before .before in
+    laid-by (walk-two _ _ _ _ (at-if1 .if1 .left) (cons-items (at-pre .pre .1 .0 .0) k (at-split2 .split2 .ensures))
+    (raised-none (at-pre .pre .1 .0 .1) k refl)) (at-both .both .ensures))
+    (λ c. c .before .before .both2 .ensures .long)
+    (λ c. let at-both2 = c .before .before in let at-parts = at-both2 .before .before .before in let at-match = at-parts .before .before in
+    let k = at-match .match .keys7 in let at-if1 = at-match .before .before .before .before .before in let at-pre = at-if1 .before .before in
+    laid-by (walk-two _ _ _ _ (at-if1 .if1 .left) (dep-items (at-pre .pre .1 .0 .0) k (at-parts .parts .ensures))
+    (raised-none (at-pre .pre .1 .0 .1) k refl)) (at-both2 .both2 .ensures))
+    (λ c. c .before .before .lay2 .ensures .long)
+    (λ c. let at-lay2 = c .before .before in let at-split3 = at-lay2 .before .before in let at-match = at-split3 .before in
+    let k = at-match .match .keys8 in let at-if1 = at-match .before .before .before .before .before in let at-pre = at-if1 .before .before in
+    laid-by (walk-same _ _ _ _ (at-if1 .if1 .left) (except-items (at-pre .pre .1 .0 .0) k (at-split3 .split3 .ensures))
+    (raised-none (at-pre .pre .1 .0 .1) k refl)) (at-lay2 .lay2 .ensures))
+    (λ c. c .before .before .lay3 .ensures .long)
+    (λ c. let at-lay3 = c .before .before in let at-match = at-lay3 .before .before in let k = at-match .match .keys9 in
+    let at-if1 = at-match .before .before .before .before .before in let at-pre = at-if1 .before .before in laid-by (walk-same _ _ _ _
+    (at-if1 .if1 .left) (fix-items (at-pre .pre .1 .0 .0) k) (raised-none (at-pre .pre .1 .0 .1) k refl)) (at-lay3 .lay3 .ensures))
+    (λ c. c .before .before .lay4 .ensures .long)
+    (λ c. let at-lay4 = c .before .before in let at-match = at-lay4 .before .before in let k = at-match .match .keys10 in
+    let at-if1 = at-match .before .before .before .before .before in let at-pre = at-if1 .before .before in laid-by (walk-same _ _ _ _
+    (at-if1 .if1 .left) (again-items (at-pre .pre .1 .0 .0) k) (raised-none (at-pre .pre .1 .0 .1) k refl)) (at-lay4 .lay4 .ensures))
+    (λ c. absurd (known (visited (c .before .before .before .before .before .before .before .pre .1 .0 .0)) (c .match .rest))))
+    (λ t. tagged-lts.spec (lay-below t, lay.Post) (tagged-at t) tagged.Post
+    (λ c. laid-none _ _ (c .if1 .taken))
+    (λ c. omega (arith, c .if1 .left))
+    (λ c. simp length-set (omega (arith, c .if1 .left)))
+    (λ c. simp length-set (omega (arith, c .if1 .left)))
+    (λ c. simp length-set (omega (arith, c .if1 .left)))
+    (λ c κs. let at-args = c .before .before .before in let p = at-args .pre in (
+      omega (arith, p .0),
+      (
+        (p .1 .0, raised-zero _ _),
+        (
+          p .1 .1
+              .0,
+          omega (arith, p .1 .1 .1),
+          p .1 .1 .1,
+          lent-set (at-args .args .tag) (at-args .args .out .now) (p .1 .1 .2),
+        ),
+      ),
+    ))
+    (λ c. tagged-one t c .long)
+    (λ c. tagged-one t c))

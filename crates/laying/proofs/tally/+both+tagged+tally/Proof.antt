@@ -1,0 +1,210 @@
+-- `laying::tally::tally` is what the walk leaves of the room; `tagged` and `both` of a tag and a part, and of two parts.
+-- The measure is twice the depth left, and one more for those two. Each arm is one law of its shape, at its kind's items.
+-- Assumes nothing.
+use mathlib.Core.Path.{refl, _∙_}
+use Prim.Native.Nat.{ℕ, _+_, _*_, _<_}
+use native.Mathlib.Omega.{arith}
+use borrow.Author.Needs.{needs}
+use borrow.Fn.Kinds.{In}
+use borrow.Fn.PlainCycle.{Measures, is, falls, and}
+use Rattle.walk.proofs.Rooms.{tallied-deep, tallied-full, tallied-cell, left-within, two-stops, two-left}
+use Rattle.walk.proofs.Visit.{walk-deep, walk-cell, walk-pass, walk-tag, walk-two, visited, next-by}
+use Rattle.walk.proofs.Nodes.{in-plan, known, or-lower, cons-lower, parts-in, words-some}
+use Rattle.walk.proofs.Deps.{dep-in}
+use Rattle.walk.proofs.Items.{
+  below-items,
+  nats-items,
+  pool-items,
+  shift-items,
+  or-first,
+  or-second,
+  cons-items,
+  dep-items,
+  dep-place,
+  except-items,
+  fix-items,
+  again-items,
+}
+use Rattle.laying.proofs.Calls.{tally-by, tally-any, tally-up, tally-part, tally-tagged, tally-both}
+use Rattle.laying.proofs.tally.both.Reads as both
+use Rattle.laying.proofs.tally.both.Kinds as both-kinds
+use Rattle.laying.proofs.tally.+both+tagged+tally.Lts-both as both-lts
+use Rattle.laying.proofs.tally.tagged.Reads as tagged
+use Rattle.laying.proofs.tally.tagged.Kinds as tagged-kinds
+use Rattle.laying.proofs.tally.+both+tagged+tally.Lts-tagged as tagged-lts
+use Rattle.laying.proofs.tally.tally.Reads as tally
+use Rattle.laying.proofs.tally.tally.Kinds as tally-kinds
+use Rattle.laying.proofs.tally.+both+tagged+tally.Lts-tally as tally-lts
+use Rattle.grammar.proofs.kinds.cons.split.Reads as cons-split-reads
+use Rattle.grammar.proofs.kinds.dep.parts.Reads as parts-reads
+use Rattle.grammar.proofs.kinds.or.split.Reads as or-split-reads
+use Rattle.numbers.proofs.except.split.Reads as except-split-reads
+use Rattle.laying.proofs.tally.one.Reads as one-reads
+use Rattle.laying.proofs.tally.+both+tagged+tally.{statement}
+use Rattle.laying.proofs.tally.+both+tagged+tally.Tie.{close}
+
+abbrev μ-both : Measures 4 both-kinds.ps ℕ
+μ-both κs a = 2 * a .1 .1 .1 .1 .1 .1 .0 + 1
+
+abbrev μ-tagged : Measures 4 tagged-kinds.ps ℕ
+μ-tagged κs a = 2 * a .1 .1 .1 .1 .0 + 1
+
+abbrev μ-tally : Measures 4 tally-kinds.ps ℕ
+μ-tally κs a = 2 * a .1 .1 .1 .1 .0
+
+module _ (t : ℕ) where
+  abbrev both-at : In 4 both-kinds.ps
+  both-at = and 4 both-kinds.ps (is 4 both-kinds.ps μ-both t) both.Pre
+
+  abbrev both-below : In 4 both-kinds.ps
+  both-below = and 4 both-kinds.ps (falls 4 both-kinds.ps _<_ μ-both t) both.Pre
+
+  abbrev tagged-at : In 4 tagged-kinds.ps
+  tagged-at = and 4 tagged-kinds.ps (is 4 tagged-kinds.ps μ-tagged t) tagged.Pre
+
+  abbrev tagged-below : In 4 tagged-kinds.ps
+  tagged-below = and 4 tagged-kinds.ps (falls 4 tagged-kinds.ps _<_ μ-tagged t) tagged.Pre
+
+  abbrev tally-at : In 4 tally-kinds.ps
+  tally-at = and 4 tally-kinds.ps (is 4 tally-kinds.ps μ-tally t) tally.Pre
+
+  abbrev tally-below : In 4 tally-kinds.ps
+  tally-below = and 4 tally-kinds.ps (falls 4 tally-kinds.ps _<_ μ-tally t) tally.Pre
+
+  abbrev calls : tally-lts.Claims
+  calls = (
+    one-reads.Asked,
+    one-reads.Learnt,
+    tally-below,
+    tally.Post,
+    or-split-reads.Asked,
+    or-split-reads.Learnt,
+    tagged-below,
+    tagged.Post,
+    cons-split-reads.Asked,
+    cons-split-reads.Learnt,
+    both-below,
+    both.Post,
+    parts-reads.Asked,
+    parts-reads.Learnt,
+    except-split-reads.Asked,
+    except-split-reads.Learnt,
+  )
+
+pub +both+tagged+tally-spec : {M : Type 1} → statement M
++both+tagged+tally-spec = close μ-both μ-tagged μ-tally
+    (λ t. both-lts.spec (tally-below t, tally.Post) (both-at t) both.Post
+    (λ c κs. let p = c .pre in (omega (arith, p .0), (p .1 .0 .0, (p .1 .1 .0, p .1 .1 .2, p .1 .1 .3))))
+    (λ c. two-stops _ _ _ _ (c .before .tally .ensures) (c .if1 .taken))
+    (λ c κs. let at-tally = c .before in let at-pre = at-tally .before in let p = at-pre .pre in (
+      omega (arith, p .0),
+      (
+        p .1 .0 .1,
+        (
+          p .1 .1
+              .1,
+          p .1 .1 .2,
+          omega (arith, p .1 .1 .3, left-within _ (at-tally .tally .ensures) (c .if1 .left)),
+        ),
+      ),
+    ))
+    (λ c. two-left _ _ _ _ (c .before .before .tally .ensures) (c .before .if1 .left) (c .tally2 .ensures)))
+    (λ t. tagged-lts.spec (tally-below t, tally.Post) (tagged-at t) tagged.Post
+    (λ c. tallied-full _ _ _ (c .if1 .taken))
+    (λ c. omega (arith, c .if1 .left))
+    (λ c κs. let p = c .before .pre in (omega (arith, p .0), (p .1 .0, (p .1 .1 .0, p .1 .1 .1, omega (arith, p .1 .1 .2)))))
+    (λ c. c .tally .ensures ∙ tallied-cell _ _ _ (c .before .if1 .left)))
+    (λ t. tally-lts.spec (calls t) (tally-at t) tally.Post
+    (λ c. tally-by _ (walk-deep _ _ _ _ (c .if1 .taken)) (tallied-deep _))
+    (λ c. let q = in-plan (visited (c .before .before .pre .1 .0)) in omega (arith, q .0, q .1))
+    (λ c. let q = in-plan (visited (c .before .before .pre .1 .0)) in omega (arith, q .0, q .1))
+    (λ c. let q = in-plan (visited (c .before .before .before .pre .1 .0)) in omega (arith, q .0, q .1))
+    (λ c. let q = in-plan (visited (c .before .before .before .pre .1 .0)) in omega (arith, q .0, q .1))
+    (λ c. let q = in-plan (visited (c .before .before .before .pre .1 .0)) in omega (arith, q .0, q .1))
+    (λ c. let q = in-plan (visited (c .before .before .before .pre .1 .0)) in omega (arith, q .0, q .1))
+    (λ c. let q = in-plan (visited (c .before .before .before .before .pre .1 .0)) in omega (arith, q .0, q .1))
+    (λ c. let q = in-plan (visited (c .before .before .before .before .pre .1 .0)) in omega (arith, q .0, q .1))
+    (λ c. let q = in-plan (visited (c .before .before .before .before .pre .1 .0)) in omega (arith, q .0, q .1))
+    (λ c. let q = in-plan (visited (c .before .before .before .before .pre .1 .0)) in omega (arith, q .0, q .1))
+    (λ c. let q = in-plan (visited (c .before .before .before .before .before .pre .1 .0)) in omega (arith, q .0, q .1))
+    (λ c κs. c .before .before .before .before .before .before .pre .1 .1 .2)
+    (λ c κs. c .before .before .before .before .before .before .pre .1 .1 .2)
+    (λ c κs. c .before .before .before .before .before .before .pre .1 .1 .2)
+    (λ c. omega (arith, c .before .before .before .before .before .if1 .left))
+    (λ c κs. let at-if1 = c .before .before .before .before .before in let at-pre = at-if1 .before in let v = at-pre .pre .1 .0 in tally-part
+    (at-pre .pre .0) (at-if1 .if1 .left) (at-pre .pre .1 .1) (next-by v (shift-items v (c .match .keys4)) .0))
+    (λ c κs. let at-pre = c .before .before .before .before .before .before in let v = at-pre .pre .1 .0 in parts-in (visited v)
+    (or-lower (visited v) (c .match .keys5)))
+    (λ c. search needs)
+    (λ c. omega (arith, c .before .before .before .before .before .before .before .before .before .if1 .left))
+    (λ c κs. let at-m = c .before in let at-split = at-m .before .before in let at-match = at-split .before in
+    let at-if1 = at-match .before .before .before .before .before in let at-pre = at-if1 .before in let v = at-pre .pre .1 .0 in tally-tagged
+    (at-pre .pre .0) (at-if1 .if1 .left) (at-pre .pre .1 .1)
+    (next-by v (or-first v (at-match .match .keys5) (at-split .split .ensures) (at-m .m .given .1)) .0))
+    (λ c. search needs)
+    (λ c. omega (arith, c .before .before .before .before .before .before .before .before .before .if1 .left))
+    (λ c κs. let at-m2 = c .before in let at-split = at-m2 .before .before in let at-match = at-split .before in
+    let at-if1 = at-match .before .before .before .before .before in let at-pre = at-if1 .before in let v = at-pre .pre .1 .0 in tally-tagged
+    (at-pre .pre .0) (at-if1 .if1 .left) (at-pre .pre .1 .1)
+    (next-by v (or-second v (at-match .match .keys5) (at-split .split .ensures) (at-m2 .m2 .given .1)) .0))
+    (λ c κs. let at-pre = c .before .before .before .before .before .before in let v = at-pre .pre .1 .0 in
+    let l = cons-lower (visited v) (c .match .keys6) in (parts-in (visited v) l, words-some (visited v) l))
+    (λ c. omega (arith, c .before .before .before .before .before .before .if1 .left))
+    (λ c κs. let at-match = c .before in let at-if1 = at-match .before .before .before .before .before in let at-pre = at-if1 .before in
+    let v = at-pre .pre .1 .0 in let n = next-by v (cons-items v (at-match .match .keys6) (c .split2 .ensures)) in tally-both
+    (at-pre .pre .0) (at-if1 .if1 .left) (at-pre .pre .1 .1) (n .0) (n .1 .0))
+    (λ c κs. dep-in (visited (c .before .before .before .before .before .before .before .pre .1 .0)) (c .before .match .keys7))
+    (λ c. let at-match = c .before .before in let at-pre = at-match .before .before .before .before .before .before in
+    let q = dep-place (at-pre .pre .1 .0) (at-match .match .keys7) (c .parts .ensures) in omega (arith, q .0, q .1))
+    (λ c. let at-match = c .before .before in let at-pre = at-match .before .before .before .before .before .before in
+    let q = dep-place (at-pre .pre .1 .0) (at-match .match .keys7) (c .parts .ensures) in omega (arith, q .0, q .1))
+    (λ c. let at-parts = c .before in let at-match = at-parts .before .before in
+    let at-pre = at-match .before .before .before .before .before .before in
+    let q = dep-place (at-pre .pre .1 .0) (at-match .match .keys7) (at-parts .parts .ensures) in omega (arith, q .0, q .1))
+    (λ c. omega (arith, c .before .before .before .before .before .before .before .before .if1 .left))
+    (λ c κs. let at-parts = c .before in let at-match = at-parts .before .before in
+    let at-if1 = at-match .before .before .before .before .before in let at-pre = at-if1 .before in let v = at-pre .pre .1 .0 in
+    let n = next-by v (dep-items v (at-match .match .keys7) (at-parts .parts .ensures)) in tally-both (at-pre .pre .0) (at-if1 .if1 .left)
+    (at-pre .pre .1 .1) (n .0) (n .1 .0))
+    (λ c κs. omega (arith, c .before .before .before .before .before .before .pre .1 .1 .0))
+    (λ c. omega (arith, c .before .before .before .before .before .before .if1 .left))
+    (λ c κs. let at-match = c .before in let at-if1 = at-match .before .before .before .before .before in let at-pre = at-if1 .before in
+    let v = at-pre .pre .1 .0 in tally-part (at-pre .pre .0) (at-if1 .if1 .left) (at-pre .pre .1 .1)
+    (next-by v (except-items v (at-match .match .keys8) (c .split3 .ensures)) .0))
+    (λ c. omega (arith, c .before .before .before .before .before .if1 .left))
+    (λ c κs. let at-if1 = c .before .before .before .before .before in let at-pre = at-if1 .before in let v = at-pre .pre .1 .0 in tally-part
+    (at-pre .pre .0) (at-if1 .if1 .left) (at-pre .pre .1 .1) (next-by v (fix-items v (c .match .keys9)) .0))
+    (λ c. omega (arith, c .before .before .before .before .before .if1 .left))
+    (λ c κs. let at-if1 = c .before .before .before .before .before in let at-pre = at-if1 .before in let v = at-pre .pre .1 .0 in tally-part
+    (at-pre .pre .0) (at-if1 .if1 .left) (at-pre .pre .1 .1) (next-by v (again-items v (c .match .keys10)) .0))
+    (λ c. let at-match = c .before in let at-if1 = at-match .before .before .before .before .before in let at-pre = at-if1 .before in
+    tally-any _ (walk-cell _ _ _ _ (at-if1 .if1 .left) (below-items (at-pre .pre .1 .0) (at-match .match .keys1)) refl) (c .one .ensures))
+    (λ c. let at-match = c .before in let at-if1 = at-match .before .before .before .before .before in let at-pre = at-if1 .before in
+    tally-any _ (walk-cell _ _ _ _ (at-if1 .if1 .left) (nats-items (at-pre .pre .1 .0) (at-match .match .keys2)) refl) (c .one2 .ensures))
+    (λ c. let at-match = c .before in let at-if1 = at-match .before .before .before .before .before in let at-pre = at-if1 .before in
+    tally-any _ (walk-cell _ _ _ _ (at-if1 .if1 .left) (pool-items (at-pre .pre .1 .0) (at-match .match .keys3)) refl) (c .one3 .ensures))
+    (λ c. let at-match = c .before in let at-if1 = at-match .before .before .before .before .before in let at-pre = at-if1 .before in tally-up
+    _ _ _ _ _ _ (walk-pass _ _ _ _ (at-if1 .if1 .left) (shift-items (at-pre .pre .1 .0) (at-match .match .keys4)) refl) (c .tally .ensures))
+    (λ c. let at-m = c .before .before in let at-split = at-m .before .before in let at-match = at-split .before in
+    let at-if1 = at-match .before .before .before .before .before in let at-pre = at-if1 .before in tally-any _ (walk-tag _ _ _ _
+    (at-if1 .if1 .left) (or-first (at-pre .pre .1 .0) (at-match .match .keys5) (at-split .split .ensures) (at-m .m .given .1)) refl)
+    (c .tagged .ensures))
+    (λ c. let at-m2 = c .before .before in let at-split = at-m2 .before .before in let at-match = at-split .before in
+    let at-if1 = at-match .before .before .before .before .before in let at-pre = at-if1 .before in tally-any _ (walk-tag _ _ _ _
+    (at-if1 .if1 .left) (or-second (at-pre .pre .1 .0) (at-match .match .keys5) (at-split .split .ensures) (at-m2 .m2 .given .1)) refl)
+    (c .tagged2 .ensures))
+    (λ c. let at-split2 = c .before in let at-match = at-split2 .before in
+    let at-if1 = at-match .before .before .before .before .before in let at-pre = at-if1 .before in tally-by _ (walk-two _ _ _ _
+    (at-if1 .if1 .left) (cons-items (at-pre .pre .1 .0) (at-match .match .keys6) (at-split2 .split2 .ensures)) refl)
+    (c .both .ensures))
+    (λ c. let at-parts = c .before .before in let at-match = at-parts .before .before in
+    let at-if1 = at-match .before .before .before .before .before in let at-pre = at-if1 .before in tally-by _ (walk-two _ _ _ _
+    (at-if1 .if1 .left) (dep-items (at-pre .pre .1 .0) (at-match .match .keys7) (at-parts .parts .ensures)) refl) (c .both2 .ensures))
+    (λ c. let at-split3 = c .before in let at-match = at-split3 .before in let at-if1 = at-match .before .before .before .before .before in
+    let at-pre = at-if1 .before in tally-by _ (walk-pass _ _ _ _ (at-if1 .if1 .left)
+    (except-items (at-pre .pre .1 .0) (at-match .match .keys8) (at-split3 .split3 .ensures)) refl) (c .tally2 .ensures))
+    (λ c. let at-match = c .before in let at-if1 = at-match .before .before .before .before .before in let at-pre = at-if1 .before in tally-by
+    _ (walk-pass _ _ _ _ (at-if1 .if1 .left) (fix-items (at-pre .pre .1 .0) (at-match .match .keys9)) refl) (c .tally3 .ensures))
+    (λ c. let at-match = c .before in let at-if1 = at-match .before .before .before .before .before in let at-pre = at-if1 .before in tally-by
+    _ (walk-pass _ _ _ _ (at-if1 .if1 .left) (again-items (at-pre .pre .1 .0) (at-match .match .keys10)) refl) (c .tally4 .ensures))
+    (λ c. absurd (known (visited (c .before .before .before .before .before .before .pre .1 .0)) (c .match .rest))))

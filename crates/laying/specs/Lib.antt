@@ -1,0 +1,2 @@
+-- What the contracts of the writing walk cite beside those of `walk`.
+pub mod Sure

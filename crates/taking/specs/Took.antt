@@ -1,0 +1,36 @@
+-- A reading walk's result in one word.
+--   wordOf    a joined number
+--   whyOf     why nothing is read; `full` says whether the row ends where the case may have no more cells
+--   Took      what a word says of what is read: a number below the limit is exact, 2^63 is at least a bound that falls by one with each depth
+--   Taken     of a row that is the front of the cells, whatever cells and stop: 14 and 15 are told apart by them alone
+-- Assumes nothing.
+use mathlib.Core.Path.{_≡_}
+use mathlib.Core.Bool.{Bool}
+use mathlib.Core.List.{List}
+use Prim.Native.Nat.{ℕ, _+_, _-_, _^_, _≤_, _<_}
+use lib.Dec.{eqb, leb}
+use lib.ListN.{length, take, drop}
+use Rattle.numbers.specs.Pick.{pick}
+use Rattle.numbers.specs.Joined.{limit}
+use Rattle.numbers.specs.declared.joined.Joined.{Joined}
+use Rattle.numbers.specs.declared.joined.Joined.the-variants.{Exact, Big}
+use Rattle.grammar.specs.declared.refusal.Refusal.{Refusal}
+use Rattle.grammar.specs.declared.refusal.Refusal.the-variants.{TooDeep, NoRoom, NotACase}
+use Rattle.walk.specs.Run.{Read, read, wrong}
+
+unfoldable pub wordOf : Joined → ℕ
+wordOf (Exact n) = n
+wordOf Big = 2 ^ 63
+
+abbrev pub whyOf : Bool → ℕ → Refusal
+whyOf full r = pick (eqb r (2 ^ 63 + 1)) TooDeep (pick (eqb r (2 ^ 63 + 2)) NotACase (pick full NoRoom NotACase))
+
+-- a place k in the cells stands for those from there on, of which the case may have as many as are left up to stop
+pub data Took (least : ℕ) (w : Read) (cells : List ℕ) (stop k r : ℕ) : Type 0 where
+  exact : r < limit → w ≡ read r (stop - k) (drop k cells) → Took least w cells stop k r
+  large : r ≡ 2 ^ 63 → (m : ℕ) → least ≤ m → w ≡ read m (stop - k) (drop k cells) → Took least w cells stop k r
+  stops : 2 ^ 63 < r → w ≡ wrong (whyOf (leb stop (length cells)) r) → Took least w cells stop k r
+
+pub record Taken (least : ℕ) (reads : ℕ → List ℕ → Read) (row : List ℕ) (at next r : ℕ) : Type 0 where
+  pub took : (cells : List ℕ) (stop : ℕ) → row ≡ take stop cells → Took least (reads (stop - at) (drop at cells)) cells stop next r
+  pub inside : r ≤ 2 ^ 63 → next ≤ length row

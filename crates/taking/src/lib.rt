@@ -1,0 +1,2 @@
+// The walk that reads, over a plan: from cells to a number.
+pub mod take;
