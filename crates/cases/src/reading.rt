@@ -30,8 +30,8 @@ fn whole(cells: &[u64], g: Got) -> Found
             }
             Found::Number(n)
         }
-        Got::Beyond(next) => {
-            if next < cells.len() {
+        Got::Beyond(end) => {
+            if end < cells.len() {
                 return Found::Refused(Refusal::NotACase, 0);
             }
             Found::Refused(Refusal::NumberTooLarge, 0)
