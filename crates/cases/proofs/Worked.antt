@@ -1,5 +1,5 @@
 -- Worked verdicts: one list of tables, with their pools and what 01 says of each, and one theorem over all of it, computed from the definitions.
---   checks, checked   the list and the theorem
+--   tables, checked   the list and the theorem
 -- Assumes nothing.
 use mathlib.Core.Path.{_≡_, refl}
 use mathlib.Core.List.{List, [], _∷_, map}

@@ -3,7 +3,7 @@
 --   step-down    to a lower node, but for that of an again
 --   every-mem    a member of a list that a test passes everywhere
 --   one-in, two-in, run-in   the nodes named are in the table; one-few, two-few, run-few   and below 256
---   marks-named, asks-named, asks-not   marks and tests of the nodes named, one after the other
+--   marks-named, asks-first, asks-second, asks-others   marks and tests of the nodes named, one after the other
 -- Assumes nothing.
 use mathlib.Core.Path.{_≡_, refl, sym, subst, ap, _∙_}
 use mathlib.Core.Bool.{Bool, true, false, _&&_}
