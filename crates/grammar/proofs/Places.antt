@@ -15,8 +15,8 @@ use Rattle.numbers.specs.Pick.{pick}
 use Rattle.graph.specs.Ways.{has}
 use Rattle.grammar.specs.kinds.Pool.{placeOf}
 use Rattle.grammar.specs.Placed.{placed}
-use Rattle.grammar.specs.declared.kinds.pool.Place.{Place}
-use Rattle.grammar.specs.declared.kinds.pool.Place.the-variants.{At, Nowhere}
+use Rattle.grammar.specs.declared.kinds.Place.{Place}
+use Rattle.grammar.specs.declared.kinds.Place.the-variants.{At, Nowhere}
 use Rattle.grammar.proofs.Runs.{run-long, run-at}
 
 pub record Placing (p : List ℕ) (at count c k : ℕ) : Type 0 where

@@ -44,6 +44,12 @@ pub enum Weighed {
     Of(u64),
 }
 
+// The number that a cell stands for by itself, or none.
+pub enum Place {
+    At(u64),
+    Nowhere,
+}
+
 // A size, or (8) "when a finite size passes 2^62".
 fn of_measured(m: Measured) -> Weighed
     ensures { λ r. ⌜ r ≡ weighedOf m ⌝ }

@@ -26,7 +26,14 @@ use Rattle.walk.specs.Room.{most}
 use Rattle.walk.specs.Plan.{Visits}
 use Rattle.laying.specs.Sure.{Few, Sure, Bounded, wide, Width, widthAt, Widths}
 use Rattle.walk.proofs.Visit.{walk-by, Next, next-by}
-use Rattle.walk.proofs.Items.{below-items, nats-items, pool-items, shift-items, or-first, or-second, cons-items, except-items, fix-items}
+use Rattle.walk.proofs.kinds.Below.{below-items}
+use Rattle.walk.proofs.kinds.Nats.{nats-items}
+use Rattle.walk.proofs.kinds.Pool.{pool-items}
+use Rattle.walk.proofs.kinds.Shift.{shift-items}
+use Rattle.walk.proofs.kinds.Or.{or-first, or-second}
+use Rattle.walk.proofs.kinds.Cons.{cons-items}
+use Rattle.walk.proofs.kinds.Except.{except-items}
+use Rattle.walk.proofs.kinds.Fix.{fix-items}
 
 -- ---- cells put together
 few-more : {es : List Event} {u w : ℕ} → u ≤ w → Few es u → Few es w

@@ -19,8 +19,8 @@ use Rattle.grammar.specs.Placed.{placed}
 use Rattle.grammar.specs.kinds.Below.{belowRule}
 use Rattle.grammar.specs.kinds.Nats.{natsRule}
 use Rattle.grammar.specs.kinds.Pool.{placeOf, poolRule}
-use Rattle.grammar.specs.declared.kinds.pool.Place.{Place}
-use Rattle.grammar.specs.declared.kinds.pool.Place.the-variants.{At, Nowhere}
+use Rattle.grammar.specs.declared.kinds.Place.{Place}
+use Rattle.grammar.specs.declared.kinds.Place.the-variants.{At, Nowhere}
 use Rattle.grammar.proofs.Words.{place-in}
 use Rattle.grammar.proofs.Places.{word-there, word-nowhere}
 use Rattle.walk.specs.Run.{Read, read, then, cellOf, follow}

@@ -3,20 +3,26 @@
 --   whyOf     why nothing is read; `full` says whether the row ends where the case may have no more cells
 --   Took      what a word says of what is read: a number below the limit is exact, 2^63 is at least a bound that falls by one with each depth
 --   Taken     of a row that is the front of the cells, whatever cells and stop: 14 and 15 are told apart by them alone
+--   TakenBy   what a visit of a kind reads, with words a and b, where its parts have a depth left
+--   celled    the next cell of a row
 -- Assumes nothing.
 use mathlib.Core.Path.{_≡_}
 use mathlib.Core.Bool.{Bool}
 use mathlib.Core.List.{List}
 use Prim.Native.Nat.{ℕ, _+_, _-_, _^_, _≤_, _<_}
-use lib.Dec.{eqb, leb}
-use lib.ListN.{length, take, drop}
+use lib.Dec.{eqb, ltb, leb}
+use lib.ListN.{length, getD, take, drop}
 use Rattle.numbers.specs.Pick.{pick}
 use Rattle.numbers.specs.Joined.{limit}
 use Rattle.numbers.specs.declared.joined.Joined.{Joined}
 use Rattle.numbers.specs.declared.joined.Joined.the-variants.{Exact, Big}
 use Rattle.grammar.specs.declared.refusal.Refusal.{Refusal}
 use Rattle.grammar.specs.declared.refusal.Refusal.the-variants.{TooDeep, NoRoom, NotACase}
-use Rattle.walk.specs.Run.{Read, read, wrong}
+use Rattle.grammar.specs.Kind.{Kind}
+use Rattle.grammar.specs.Plan.{sizeIn, ruleIn}
+use Rattle.walk.specs.Run.{Read, read, wrong, follow, run}
+use Rattle.taking.specs.declared.cells.Cell.{Cell}
+use Rattle.taking.specs.declared.cells.Cell.the-variants.{Of, Stops}
 
 unfoldable pub wordOf : Joined → ℕ
 wordOf (Exact n) = n
@@ -34,3 +40,13 @@ pub data Took (least : ℕ) (w : Read) (cells : List ℕ) (stop k r : ℕ) : Typ
 pub record Taken (least : ℕ) (reads : ℕ → List ℕ → Read) (row : List ℕ) (at next r : ℕ) : Type 0 where
   pub took : (cells : List ℕ) (stop : ℕ) → row ≡ take stop cells → Took least (reads (stop - at) (drop at cells)) cells stop next r
   pub inside : r ≤ 2 ^ 63 → next ≤ length row
+
+abbrev pub TakenBy : Kind → (plan p : List ℕ) → (a b left off : ℕ) → List ℕ → ℕ → ℕ → ℕ → Type 0
+TakenBy k plan p a b left off row at next r =
+    Taken (2 ^ 62 + (200 - left)) (follow (run (ruleIn plan p) left) off (k .rule a b p (sizeIn plan) .tree)) row at next r
+
+-- "15: the cells run out", or 14; "a cell less than k under a shift"
+abbrev pub celled : ℕ → List ℕ → ℕ → Cell
+celled off row at =
+    pick (leb (length row) at) (Stops (2 ^ 63 + 3))
+    (pick (ltb (getD row at 0) off) (Stops (2 ^ 63 + 2)) (Of (getD row at 0 - off)))

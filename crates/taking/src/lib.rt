@@ -1,2 +1,3 @@
 // The walk that reads, over a plan: from cells to a number.
+pub mod cells;
 pub mod take;

@@ -1,14 +1,21 @@
-// The reading walk. A result is one word: below 2^63 a number; BIG; or, above it, why nothing is read.
-ghost use mathlib.Core.Path.{_≡_};
-ghost use mathlib.Core.List.{List};
-ghost use Prim.Native.Nat.{ℕ, _+_, _-_, _*_, _^_, _≤_};
-ghost use lib.ListN.{length, take as front, drop};
+// The reading walk: a line a kind, and a function for each shape of visits that reads parts.
+ghost use Prim.Native.Nat.{_+_, _-_, _*_, _^_, _≤_, _<_};
+ghost use lib.ListN.{length};
 ghost use Rattle.grammar.specs.Plan.{ruleIn};
-ghost use Rattle.grammar.specs.kinds.Below.{belowRule};
-ghost use Rattle.grammar.specs.kinds.Pool.{poolRule};
-ghost use Rattle.walk.specs.Run.{Read, read, cellOf, follow, run};
-ghost use Rattle.walk.specs.Plan.{Reading};
-ghost use Rattle.taking.specs.Took.{wordOf, Taken};
+ghost use Rattle.grammar.specs.kinds.Or.{or as orKind};
+ghost use Rattle.grammar.specs.kinds.Cons.{cons as consKind};
+ghost use Rattle.grammar.specs.kinds.Dep.{dep as depKind};
+ghost use Rattle.grammar.specs.kinds.Except.{except as exceptKind};
+ghost use Rattle.walk.specs.Run.{run};
+ghost use Rattle.walk.specs.Plan.{Reading, Choosing};
+ghost use Rattle.taking.specs.Took.{Taken, TakenBy};
+use super::cells::BIG;
+use super::cells::DEEP;
+use super::cells::UNFIT;
+use super::cells::any;
+use super::cells::counted;
+use super::cells::listed;
+use super::cells::word;
 use grammar::kinds::AGAIN;
 use grammar::kinds::BELOW;
 use grammar::kinds::CONS;
@@ -22,87 +29,127 @@ use grammar::kinds::SHIFT;
 use grammar::kinds::cons;
 use grammar::kinds::dep;
 use grammar::kinds::or;
-use grammar::kinds::pool::Place;
-use grammar::kinds::pool::place_of;
-use numbers::joined::Joined;
-use numbers::joined::cap;
 
-// A number past the limit of `numbers::joined`: 16 at the end, however many excepts take one off.
-pub const BIG: u64 = 9223372036854775808;
+// An or's tags, 0 and 1.
+const TAGS: u64 = 2;
 
-pub const DEEP: u64 = 9223372036854775809;
-
-pub const UNFIT: u64 = 9223372036854775810;
-
-// The row's end: 14 where the case may have no more cells, else 15.
-pub const ENDED: u64 = 9223372036854775811;
-
-fn word(j: Joined) -> u64
-    ensures { λ r. ⌜ r ≡ wordOf j ⌝ }
-{
-    match j {
-        Joined::Exact(n) => n,
-        Joined::Big => BIG,
-    }
-}
-
-// A cell of its own, any number.
-fn leaf(row: &&[u64], off: u64, at: &mut usize) -> u64
-    requires { ⌜ (now at ≤ length (now (now row))) × (length (now (now row)) ≤ 65536) ⌝ }
-    ensures { λ r. ⌜ Taken (2 ^ 62 + 256) (λ (q : ℕ) (cs : List ℕ). cellOf off q cs (λ (c : ℕ). read c))
+// or: a tag, and the part that it leads to. 15: "a tag above 1"
+fn tagged(
+    lent: &&[u64],
+    words: &&[u64],
+    row: &&[u64],
+    a: usize,
+    b: usize,
+    left: usize,
+    off: u64,
+    at: &mut usize,
+) -> u64
+    requires { ⌜ Reading (now (now lent)) (now (now words)) a × Reading (now (now lent)) (now (now words)) b ⌝ }
+    requires { ⌜ (left ≤ 200) × (now at ≤ length (now (now row))) × (length (now (now row)) ≤ 65536) ⌝ }
+    ensures { λ r. ⌜ TakenBy orKind (now (now (lent .entry))) (now (now (words .entry))) a b left off
         (now (now (row .entry))) (now (at .entry)) (now (at .exit)) r ⌝ }
 {
-    let cells = *row;
-    let k = *at;
-    if cells.len() <= k {
-        return ENDED;
+    let tag = counted(TAGS, row, off, at);
+    if tag == 0 {
+        let m = take(lent, words, row, a, left, 0, at);
+        if BIG <= m {
+            return m;
+        }
+        return word(or::join(*lent, 0, b, m));
     }
-    let c = cells[k];
-    if c < off {
-        return UNFIT;
+    if tag == 1 {
+        let m = take(lent, words, row, b, left, 0, at);
+        if BIG <= m {
+            return m;
+        }
+        return word(or::join(*lent, 1, a, m));
     }
-    *at = k + 1;
-    word(cap(c - off))
+    tag
 }
 
-// 15: "a number cell not below its count"
-fn counted(a: u64, row: &&[u64], off: u64, at: &mut usize) -> u64
-    requires { ⌜ (a ≤ 2 ^ 62) × (now at ≤ length (now (now row))) × (length (now (now row)) ≤ 65536) ⌝ }
-    ensures { λ r. ⌜ ((go : ℕ → ℕ → ℕ → List ℕ → Read) → Taken (2 ^ 62 + 256) (follow go off (belowRule a .tree))
-        (now (now (row .entry))) (now (at .entry)) (now (at .exit)) r) ⌝ }
+// cons: both parts
+fn both(
+    lent: &&[u64],
+    words: &&[u64],
+    row: &&[u64],
+    a: usize,
+    b: usize,
+    left: usize,
+    off: u64,
+    at: &mut usize,
+) -> u64
+    requires { ⌜ Reading (now (now lent)) (now (now words)) a × Reading (now (now lent)) (now (now words)) b ⌝ }
+    requires { ⌜ (left ≤ 200) × (off + left * 2 ^ 32 ≤ 200 * 2 ^ 32) × (now at ≤ length (now (now row))) × (length (now (now row)) ≤ 65536) ⌝ }
+    ensures { λ r. ⌜ TakenBy consKind (now (now (lent .entry))) (now (now (words .entry))) a b left off
+        (now (now (row .entry))) (now (at .entry)) (now (at .exit)) r ⌝ }
 {
-    let c = leaf(row, off, at);
-    if c < a {
-        return c;
+    let x = take(lent, words, row, a, left, off, at);
+    if BIG < x {
+        return x;
     }
-    if BIG < c {
-        return c;
+    let y = take(lent, words, row, b, left, 0, at);
+    if BIG <= y {
+        return y;
     }
-    UNFIT
+    if BIG <= x {
+        return BIG;
+    }
+    word(cons::join(*lent, a, b, x, y))
 }
 
-// 15: "a pool word not listed"
-fn listed(words: &&[u64], a: usize, b: usize, row: &&[u64], off: u64, at: &mut usize) -> u64
-    requires { ⌜ (b ≤ 4096) × (a + b ≤ length (now (now words))) × (length (now (now words)) ≤ 4096) ⌝ }
-    requires { ⌜ (now at ≤ length (now (now row))) × (length (now (now row)) ≤ 65536) ⌝ }
-    ensures { λ r. ⌜ ((go : ℕ → ℕ → ℕ → List ℕ → Read) → Taken (2 ^ 62 + 256)
-        (follow go off (poolRule (front b (drop a (now (now (words .entry))))) b .tree))
-        (now (now (row .entry))) (now (at .entry)) (now (at .exit)) r) ⌝ }
+// dep: the first part, and the second that its number chooses. That number is below 256, so never BIG.
+fn chosen(
+    lent: &&[u64],
+    words: &&[u64],
+    row: &&[u64],
+    a: usize,
+    b: usize,
+    left: usize,
+    off: u64,
+    at: &mut usize,
+) -> u64
+    requires { ⌜ Choosing (now (now lent)) (now (now words)) a b ⌝ }
+    requires { ⌜ (left ≤ 200) × (off + left * 2 ^ 32 ≤ 200 * 2 ^ 32) × (now at ≤ length (now (now row))) × (length (now (now row)) ≤ 65536) ⌝ }
+    ensures { λ r. ⌜ TakenBy depKind (now (now (lent .entry))) (now (now (words .entry))) a b left off
+        (now (now (row .entry))) (now (at .entry)) (now (at .exit)) r ⌝ }
 {
-    let cells = *row;
-    let k = *at;
-    if cells.len() <= k {
-        return ENDED;
+    let x = take(lent, words, row, a, left, off, at);
+    if BIG <= x {
+        return x;
     }
-    let c = cells[k];
-    if c < off {
+    let pool = *words;
+    let c = pool[b + x as usize] as usize;
+    let y = take(lent, words, row, c, left, 0, at);
+    if BIG <= y {
+        return y;
+    }
+    word(dep::join(*lent, pool, a, b, x, y))
+}
+
+// except: a part at another number than b. 15: "the case an except removed (met after its last cell)"
+fn without(
+    lent: &&[u64],
+    words: &&[u64],
+    row: &&[u64],
+    a: usize,
+    b: u64,
+    left: usize,
+    off: u64,
+    at: &mut usize,
+) -> u64
+    requires { ⌜ Reading (now (now lent)) (now (now words)) a × (b < 2 ^ 62) ⌝ }
+    requires { ⌜ (left ≤ 200) × (off + left * 2 ^ 32 ≤ 200 * 2 ^ 32) × (now at ≤ length (now (now row))) × (length (now (now row)) ≤ 65536) ⌝ }
+    ensures { λ r. ⌜ TakenBy exceptKind (now (now (lent .entry))) (now (now (words .entry))) a b left off
+        (now (now (row .entry))) (now (at .entry)) (now (at .exit)) r ⌝ }
+{
+    let m = take(lent, words, row, a, left, off, at);
+    if BIG <= m {
+        return m;
+    }
+    if m == b {
         return UNFIT;
     }
-    *at = k + 1;
-    match place_of(*words, a, b, c - off) {
-        Place::At(m) => m,
-        Place::Nowhere => UNFIT,
-    }
+    word(numbers::except::join(b, m))
 }
 
 // "Reading walks the same nodes from cells": the walk calls itself on parts, and the depth left falls.
@@ -126,74 +173,19 @@ pub fn take(
     }
     let plan = *lent;
     let kind = plan[4 * i];
-    let a = plan[4 * i + 1];
+    let a = plan[4 * i + 1] as usize;
     let b = plan[4 * i + 2];
     match kind {
-        BELOW => counted(a, row, off, at),
-        NATS => leaf(row, off, at),
-        POOL => listed(words, a as usize, b as usize, row, off, at),
-        SHIFT => take(lent, words, row, a as usize, left - 1, off + b, at),
-        OR => {
-            let tag = leaf(row, off, at);
-            if tag == 0 {
-                let m = take(lent, words, row, a as usize, left - 1, 0, at);
-                if BIG <= m {
-                    return m;
-                }
-                return word(or::join(plan, 0, b as usize, m));
-            }
-            if tag == 1 {
-                let m = take(lent, words, row, b as usize, left - 1, 0, at);
-                if BIG <= m {
-                    return m;
-                }
-                return word(or::join(plan, 1, a as usize, m));
-            }
-            if BIG < tag {
-                return tag;
-            }
-            UNFIT
-        }
-        CONS => {
-            let x = take(lent, words, row, a as usize, left - 1, off, at);
-            if BIG < x {
-                return x;
-            }
-            let y = take(lent, words, row, b as usize, left - 1, 0, at);
-            if BIG <= y {
-                return y;
-            }
-            if BIG <= x {
-                return BIG;
-            }
-            word(cons::join(plan, a as usize, b as usize, x, y))
-        }
-        DEP => {
-            // A first part's number is below its size, at most 256, so it is never BIG.
-            let x = take(lent, words, row, a as usize, left - 1, off, at);
-            if BIG <= x {
-                return x;
-            }
-            let pool = *words;
-            let c = pool[b as usize + x as usize] as usize;
-            let y = take(lent, words, row, c, left - 1, 0, at);
-            if BIG <= y {
-                return y;
-            }
-            word(dep::join(plan, pool, a as usize, b as usize, x, y))
-        }
-        EXCEPT => {
-            let m = take(lent, words, row, a as usize, left - 1, off, at);
-            if BIG <= m {
-                return m;
-            }
-            if m == b {
-                return UNFIT;
-            }
-            word(numbers::except::join(b, m))
-        }
-        FIX => take(lent, words, row, a as usize, left - 1, off, at),
-        AGAIN => take(lent, words, row, a as usize, left - 1, off, at),
+        BELOW => counted(a as u64, row, off, at),
+        NATS => any(row, off, at),
+        POOL => listed(words, a, b as usize, row, off, at),
+        SHIFT => take(lent, words, row, a, left - 1, off + b, at),
+        OR => tagged(lent, words, row, a, b as usize, left - 1, off, at),
+        CONS => both(lent, words, row, a, b as usize, left - 1, off, at),
+        DEP => chosen(lent, words, row, a, b as usize, left - 1, off, at),
+        EXCEPT => without(lent, words, row, a, b, left - 1, off, at),
+        FIX => take(lent, words, row, a, left - 1, off, at),
+        AGAIN => take(lent, words, row, a, left - 1, off, at),
         // Not reached: a checked plan has no other kind.
         _ => UNFIT,
     }

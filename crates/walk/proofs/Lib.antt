@@ -7,6 +7,5 @@ pub mod Fills
 pub mod Rooms
 pub mod Visit
 pub mod Nodes
-pub mod Deps
-pub mod Items
+pub mod kinds
 pub mod Plans

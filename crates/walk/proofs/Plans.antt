@@ -28,7 +28,7 @@ use Rattle.grammar.specs.kinds.Fix.{passRule}
 use Rattle.grammar.proofs.KindLaw.{fit-some, KindLaw, each-kind}
 use Rattle.grammar.proofs.Kept.{laws, unknown-law}
 use Rattle.walk.specs.Plan.{Walkable, Visits}
-use Rattle.walk.proofs.Nodes.{fix-rule}
+use Rattle.walk.proofs.kinds.Fix.{fix-rule}
 
 module _ (plan p : List ℕ) (count : ℕ) (holds : (i : ℕ) → i < count → Holds (kindIn (kindWord plan i) .checks (nodeIn plan p count i) (before (sizeIn plan) i)))
     (sized : (i : ℕ) → i < count → sizeIn plan i ≡ ruleIn plan p i .size) (fit : (i : ℕ) → i < count → Fit (sizeIn plan i)) where

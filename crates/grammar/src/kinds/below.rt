@@ -6,7 +6,9 @@ ghost use Rattle.numbers.specs.Size.{Size};
 ghost use Rattle.grammar.specs.Nodes.{nodeWith};
 ghost use Rattle.grammar.specs.kinds.Below.{below};
 ghost use Rattle.grammar.specs.Plan.{weighed};
+ghost use Rattle.grammar.specs.Placed.{counted};
 use super::super::refusal::Refusal;
+use super::Place;
 use super::Weighed;
 use numbers::size::LARGEST;
 
@@ -20,4 +22,14 @@ pub fn check(a: u64) -> Weighed
         return Weighed::Fault(Refusal::Range);
     }
     Weighed::Of(a)
+}
+
+// 15: "a number cell not below its count"
+pub fn place_of(a: u64, c: u64) -> Place
+    ensures { λ r. ⌜ r ≡ counted a c ⌝ }
+{
+    if c < a {
+        return Place::At(c);
+    }
+    Place::Nowhere
 }

@@ -10,6 +10,7 @@ ghost use Rattle.grammar.specs.Plan.{weighed};
 ghost use Rattle.grammar.specs.Placed.{placed};
 use super::super::loops;
 use super::super::refusal::Refusal;
+use super::Place;
 use super::Weighed;
 
 // "1 <= b <= 4,096"
@@ -34,12 +35,6 @@ pub fn check(pool: &[u64], a: usize, b: usize) -> Weighed
         return Weighed::Of(b as u64);
     }
     Weighed::Fault(Refusal::Repeat)
-}
-
-// A word's place among others.
-pub enum Place {
-    At(u64),
-    Nowhere,
 }
 
 // Where c is among `count` words of the pool, from `at` on.

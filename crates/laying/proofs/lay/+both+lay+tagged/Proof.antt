@@ -11,23 +11,17 @@ use lib.ListN.{length-set}
 use Rattle.walk.proofs.Rooms.{tallied-deep, left-within}
 use Rattle.laying.proofs.Lays.{lent-most, lent-set, laid-deep, laid-none, laid-stops, laid-two, laid-tag}
 use Rattle.walk.proofs.Visit.{walk-deep, walk-cell, walk-word, walk-pass, walk-same, walk-tag, walk-two, visited, next-by}
-use Rattle.walk.proofs.Nodes.{in-plan, known, shift-small, shift-raised, or-lower, cons-lower, parts-in, words-some, raised-none, raised-zero}
-use Rattle.walk.proofs.Deps.{dep-in}
-use Rattle.walk.proofs.Items.{
-  below-items,
-  nats-items,
-  pool-items,
-  pool-place,
-  shift-items,
-  or-first,
-  or-second,
-  cons-items,
-  dep-items,
-  dep-place,
-  except-items,
-  fix-items,
-  again-items,
-}
+use Rattle.walk.proofs.Nodes.{in-plan, known, parts-in, words-some, raised-none, raised-zero}
+use Rattle.walk.proofs.kinds.Below.{below-items}
+use Rattle.walk.proofs.kinds.Nats.{nats-items}
+use Rattle.walk.proofs.kinds.Pool.{pool-items, pool-place}
+use Rattle.walk.proofs.kinds.Shift.{shift-small, shift-raised, shift-items}
+use Rattle.walk.proofs.kinds.Or.{or-lower, or-first, or-second}
+use Rattle.walk.proofs.kinds.Cons.{cons-lower, cons-items}
+use Rattle.walk.proofs.kinds.Dep.{choosing, dep-items, dep-place}
+use Rattle.walk.proofs.kinds.Except.{except-items}
+use Rattle.walk.proofs.kinds.Fix.{fix-items}
+use Rattle.walk.proofs.kinds.Again.{again-items}
 use Rattle.laying.proofs.Calls.{laid-by, lay-part, lay-shift, lay-tagged, lay-both}
 use Rattle.laying.proofs.lay.both.Reads as both
 use Rattle.laying.proofs.lay.both.Kinds as both-kinds
@@ -210,7 +204,7 @@ pub +both+lay+tagged-spec : {M : Type 1} → statement M
     let at-if1 = at-match .before .before .before .before .before in let at-pre = at-if1 .before .before in let v = at-pre .pre .1 .0 .0 in
     let n = next-by v (cons-items v (at-match .match .keys6) (at-split2 .split2 .ensures)) in lay-both _ (at-pre .pre .0)
     (at-if1 .if1 .left) (at-pre .pre .1 .1) (n .0) (n .1 .0))
-    (λ c κs. dep-in (visited (c .before .before .before .before .before .before .before .before .pre .1 .0 .0)) (c .before .match .keys7))
+    (λ c κs. choosing (visited (c .before .before .before .before .before .before .before .before .pre .1 .0 .0)) (c .before .match .keys7) .words)
     (λ c. let at-match = c .before .before in let at-pre = at-match .before .before .before .before .before .before .before in
     let q = dep-place (at-pre .pre .1 .0 .0) (at-match .match .keys7) (c .parts .ensures) in omega (arith, q .0, q .1))
     (λ c. let at-match = c .before .before in let at-pre = at-match .before .before .before .before .before .before .before in

@@ -9,22 +9,17 @@ use borrow.Fn.Kinds.{In}
 use borrow.Fn.PlainCycle.{Measures, is, falls, and}
 use Rattle.walk.proofs.Rooms.{tallied-deep, tallied-full, tallied-cell, left-within, two-stops, two-left}
 use Rattle.walk.proofs.Visit.{walk-deep, walk-cell, walk-pass, walk-tag, walk-two, visited, next-by}
-use Rattle.walk.proofs.Nodes.{in-plan, known, or-lower, cons-lower, parts-in, words-some}
-use Rattle.walk.proofs.Deps.{dep-in}
-use Rattle.walk.proofs.Items.{
-  below-items,
-  nats-items,
-  pool-items,
-  shift-items,
-  or-first,
-  or-second,
-  cons-items,
-  dep-items,
-  dep-place,
-  except-items,
-  fix-items,
-  again-items,
-}
+use Rattle.walk.proofs.Nodes.{in-plan, known, parts-in, words-some}
+use Rattle.walk.proofs.kinds.Below.{below-items}
+use Rattle.walk.proofs.kinds.Nats.{nats-items}
+use Rattle.walk.proofs.kinds.Pool.{pool-items}
+use Rattle.walk.proofs.kinds.Shift.{shift-items}
+use Rattle.walk.proofs.kinds.Or.{or-lower, or-first, or-second}
+use Rattle.walk.proofs.kinds.Cons.{cons-lower, cons-items}
+use Rattle.walk.proofs.kinds.Dep.{choosing, dep-items, dep-place}
+use Rattle.walk.proofs.kinds.Except.{except-items}
+use Rattle.walk.proofs.kinds.Fix.{fix-items}
+use Rattle.walk.proofs.kinds.Again.{again-items}
 use Rattle.laying.proofs.Calls.{tally-by, tally-any, tally-up, tally-part, tally-tagged, tally-both}
 use Rattle.laying.proofs.tally.both.Reads as both
 use Rattle.laying.proofs.tally.both.Kinds as both-kinds
@@ -153,7 +148,7 @@ pub +both+tagged+tally-spec : {M : Type 1} → statement M
     (λ c κs. let at-match = c .before in let at-if1 = at-match .before .before .before .before .before in let at-pre = at-if1 .before in
     let v = at-pre .pre .1 .0 in let n = next-by v (cons-items v (at-match .match .keys6) (c .split2 .ensures)) in tally-both
     (at-pre .pre .0) (at-if1 .if1 .left) (at-pre .pre .1 .1) (n .0) (n .1 .0))
-    (λ c κs. dep-in (visited (c .before .before .before .before .before .before .before .pre .1 .0)) (c .before .match .keys7))
+    (λ c κs. choosing (visited (c .before .before .before .before .before .before .before .pre .1 .0)) (c .before .match .keys7) .words)
     (λ c. let at-match = c .before .before in let at-pre = at-match .before .before .before .before .before .before in
     let q = dep-place (at-pre .pre .1 .0) (at-match .match .keys7) (c .parts .ensures) in omega (arith, q .0, q .1))
     (λ c. let at-match = c .before .before in let at-pre = at-match .before .before .before .before .before .before in

@@ -1,0 +1,111 @@
+// The cells that a visit takes itself, and the word in which a visit hands back what it read: below 2^63 a
+// number; BIG; or, above it, why nothing is read. A cell that does not fit is not gone past.
+ghost use mathlib.Core.Path.{_≡_};
+ghost use mathlib.Core.List.{List};
+ghost use Prim.Native.Nat.{ℕ, _+_, _^_, _≤_, _<_};
+ghost use lib.ListN.{length, take as front, drop};
+ghost use Rattle.grammar.specs.kinds.Below.{belowRule};
+ghost use Rattle.grammar.specs.kinds.Nats.{natsRule};
+ghost use Rattle.grammar.specs.kinds.Pool.{poolRule};
+ghost use Rattle.walk.specs.Run.{Read, follow};
+ghost use Rattle.taking.specs.Took.{wordOf, celled, Taken};
+use grammar::kinds::Place;
+use grammar::kinds::below;
+use grammar::kinds::pool;
+use numbers::joined::Joined;
+use numbers::joined::cap;
+
+// A number past the limit of `numbers::joined`: 16 at the end, however many excepts take one off.
+pub const BIG: u64 = 9223372036854775808;
+
+pub const DEEP: u64 = 9223372036854775809;
+
+pub const UNFIT: u64 = 9223372036854775810;
+
+// The row's end: 14 where the case may have no more cells, else 15.
+pub const ENDED: u64 = 9223372036854775811;
+
+pub fn word(j: Joined) -> u64
+    ensures { λ r. ⌜ r ≡ wordOf j ⌝ }
+{
+    match j {
+        Joined::Exact(n) => n,
+        Joined::Big => BIG,
+    }
+}
+
+// The next cell, less what the shifts above take off; or why there is none.
+pub enum Cell {
+    Of(u64),
+    Stops(u64),
+}
+
+// 15: "a cell less than k under a shift"
+fn cell_at(row: &[u64], at: usize, off: u64) -> Cell
+    ensures { λ r. ⌜ r ≡ celled off (now (row .entry)) at ⌝ }
+{
+    if row.len() <= at {
+        return Cell::Stops(ENDED);
+    }
+    let c = row[at];
+    if c < off {
+        return Cell::Stops(UNFIT);
+    }
+    Cell::Of(c - off)
+}
+
+// nats: any number
+pub fn any(row: &&[u64], off: u64, at: &mut usize) -> u64
+    requires { ⌜ (now at ≤ length (now (now row))) × (length (now (now row)) ≤ 65536) ⌝ }
+    ensures { λ r. ⌜ ((go : ℕ → ℕ → ℕ → List ℕ → Read) → Taken (2 ^ 62 + 256) (follow go off (natsRule .tree))
+        (now (now (row .entry))) (now (at .entry)) (now (at .exit)) r) ⌝ }
+{
+    let k = *at;
+    match cell_at(*row, k, off) {
+        Cell::Of(c) => {
+            *at = k + 1;
+            word(cap(c))
+        }
+        Cell::Stops(w) => w,
+    }
+}
+
+// below: a number below a count
+pub fn counted(a: u64, row: &&[u64], off: u64, at: &mut usize) -> u64
+    requires { ⌜ (a ≤ 2 ^ 62) × (now at ≤ length (now (now row))) × (length (now (now row)) ≤ 65536) ⌝ }
+    ensures { λ r. ⌜ (r ≤ 2 ^ 63 → r < a) × ((go : ℕ → ℕ → ℕ → List ℕ → Read) → Taken (2 ^ 62 + 256) (follow go off (belowRule a .tree))
+        (now (now (row .entry))) (now (at .entry)) (now (at .exit)) r) ⌝ }
+{
+    let k = *at;
+    match cell_at(*row, k, off) {
+        Cell::Of(c) => match below::place_of(a, c) {
+            Place::At(m) => {
+                *at = k + 1;
+                m
+            }
+            Place::Nowhere => UNFIT,
+        },
+        Cell::Stops(w) => w,
+    }
+}
+
+// pool: the place of a word
+pub fn listed(words: &&[u64], a: usize, b: usize, row: &&[u64], off: u64, at: &mut usize) -> u64
+    requires { ⌜ (b ≤ 4096) × (a + b ≤ length (now (now words))) × (length (now (now words)) ≤ 4096) ⌝ }
+    requires { ⌜ (now at ≤ length (now (now row))) × (length (now (now row)) ≤ 65536) ⌝ }
+    ensures { λ r. ⌜ ((go : ℕ → ℕ → ℕ → List ℕ → Read) → Taken (2 ^ 62 + 256)
+        (follow go off (poolRule (front b (drop a (now (now (words .entry))))) b .tree))
+        (now (now (row .entry))) (now (at .entry)) (now (at .exit)) r) ⌝ }
+{
+    let k = *at;
+    match cell_at(*row, k, off) {
+        Cell::Of(c) => match pool::place_of(*words, a, b, c) {
+            Place::At(m) => {
+                *at = k + 1;
+                m
+            }
+            Place::Nowhere => UNFIT,
+        },
+        Cell::Stops(w) => w,
+    }
+}

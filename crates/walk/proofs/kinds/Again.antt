@@ -1,0 +1,21 @@
+-- An again of a plan.
+-- Assumes nothing.
+use mathlib.Core.Path.{_≡_}
+use mathlib.Core.List.{List, [], _∷_}
+use Prim.Native.Nat.{ℕ}
+use Rattle.grammar.specs.Rule.{part}
+use Rattle.grammar.specs.Plan.{kindWord, aWord, ruleIn}
+use Rattle.grammar.specs.kinds.Fix.{passRule}
+use Rattle.walk.specs.Plan.{Reading, Visits}
+use Rattle.walk.proofs.Nodes.{rule-by, items-of, reads-at, reads-one}
+
+pub again-rule : (plan p : List ℕ) (i : ℕ) → kindWord plan i ≡ 9 → ruleIn plan p i ≡ passRule (aWord plan i)
+again-rule plan p i k = rule-by plan p i k
+
+pub again-reads : {plan p : List ℕ} {i : ℕ} → Reading plan p i → kindWord plan i ≡ 9 → Reading plan p (aWord plan i)
+unfolding passRule
+again-reads {plan} {p} {i} r k = reads-at r (aWord plan i) (reads-one r (again-rule plan p i k) .0)
+
+pub again-items : {plan p : List ℕ} {i n : ℕ} → Visits plan p i n → kindWord plan i ≡ 9 → ruleIn plan p i .items n ≡ part (aWord plan i) n 0 ∷ []
+unfolding passRule
+again-items {plan} {p} {i} v k = items-of (again-rule plan p i k)
