@@ -15,9 +15,9 @@ use super::fits::MOST_CELLS;
 use super::fits::room_for;
 use grammar::refusal::Refusal;
 use numbers::size::LARGEST;
-use taking::take::BIG;
-use taking::take::DEEP;
-use taking::take::UNFIT;
+use taking::own::BIG;
+use taking::own::DEEP;
+use taking::own::UNFIT;
 use taking::take::take;
 
 // A number below 2^62 and the place after its cells; a larger one, and that place; why nothing is read.

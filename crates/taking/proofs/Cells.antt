@@ -2,7 +2,7 @@
 --   Seen, seen-row           what a word says that is no refusal
 --   restated                 what is read is the same, and a bound may be lowered
 --   taken-done, -large, -number, -fails   nothing more is read: a number, or no case
---   cell-ends, -less, -found, -then       a cell comes first
+--   cell-..                  a cell comes first: what the code has found of it
 --   first-stops, first-then  something comes first that has been read
 -- Assumes nothing.
 use mathlib.Core.Path.{_≡_, refl, sym, ap, subst, _∙_}
@@ -21,7 +21,9 @@ use Rattle.numbers.specs.Joined.{limit, capped}
 use Rattle.numbers.proofs.Tests.{pick-by}
 use Rattle.grammar.specs.declared.refusal.Refusal.the-variants.{NoRoom, NotACase}
 use Rattle.walk.specs.Run.{Read, read, wrong, then, fit, cellOf}
-use Rattle.taking.specs.Took.{wordOf, whyOf, Took, exact, large, stops, Taken}
+use Rattle.taking.specs.Took.{wordOf, whyOf, Took, exact, large, stops, Taken, Celled}
+use Rattle.taking.specs.declared.own.Cell.{Cell}
+use Rattle.taking.specs.declared.own.Cell.the-variants.{Of, Stops}
 
 -- ---- what a word says that is no refusal: the number m, which is the word itself below 2^63
 pub record Seen (least : ℕ) (w : Read) (cells : List ℕ) (stop k r : ℕ) : Type 0 where
@@ -69,12 +71,12 @@ module _ {row : List ℕ} {k : ℕ} where
       (pick-by (λ j. Taken l (read m) row k k (wordOf j)) (ltb m limit)
       (λ t. taken-done (ltb-true m limit t) i) (λ t. taken-large (omega (arith, ltb-false m limit t)) i))
 
-  pub taken-fails : {l : ℕ} → Taken l (λ q cs. wrong NotACase) row k k (2 ^ 63 + 2)
+  pub taken-fails : {l next : ℕ} → Taken l (λ q cs. wrong NotACase) row k next (2 ^ 63 + 2)
   taken-fails = record { took = λ cells stop e. stops (omega arith) refl; inside = λ q. absurd (omega arith) }
 
 -- ---- a cell comes first, and then what f reads of it
 module _ (off : ℕ) (row : List ℕ) (at : ℕ) (f : ℕ → ℕ → List ℕ → Read) where
-  pub cell-ends : at ≤ length row → length row ≤ at → {l next : ℕ} → Taken l (λ q cs. cellOf off q cs f) row at next (2 ^ 63 + 3)
+  cell-ends : at ≤ length row → length row ≤ at → {l next : ℕ} → Taken l (λ q cs. cellOf off q cs f) row at next (2 ^ 63 + 3)
   unfolding cellOf
   cell-ends in-row l = record {
     took = λ cells stop e. stops (omega arith) (by cells stop (ap length e ∙ length-take stop cells) (leb stop (length cells)) refl);
@@ -99,18 +101,52 @@ module _ (off : ℕ) (row : List ℕ) (at : ℕ) (f : ℕ → ℕ → List ℕ �
         let g : getD row at 0 ≡ getD cells at 0 = ap (λ (xs : List ℕ). getD xs at 0) e ∙ getD-take stop cells at 0 (omega arith) in
         rw (s, drop-cons cells at 0 (omega arith), add-one, g)
 
-    pub cell-less : getD row at 0 < off → {l next : ℕ} → Taken l (λ q cs. cellOf off q cs f) row at next (2 ^ 63 + 2)
+    cell-less : getD row at 0 < off → {l next : ℕ} → Taken l (λ q cs. cellOf off q cs f) row at next (2 ^ 63 + 2)
     cell-less h = record {
       took = λ cells stop e. stops (omega arith) (cell-is cells stop e ∙ rw (lt-leb off (getD row at 0) h));
       inside = λ q. absurd (omega arith);
     }
 
-    pub cell-found : off ≤ getD row at 0 → {l next r : ℕ} → Taken l (f (getD row at 0 - off)) row (at + 1) next r
+    cell-found : off ≤ getD row at 0 → {l next r : ℕ} → Taken l (f (getD row at 0 - off)) row (at + 1) next r
         → Taken l (λ q cs. cellOf off q cs f) row at next r
     cell-found h t = record {
       took = λ cells stop e. rw (cell-is cells stop e, le-leb off (getD row at 0) h) (t .took cells stop e);
       inside = t .inside;
     }
+
+-- what the next cell shows
+abbrev Shows : ℕ → List ℕ → ℕ → Cell → Type 0
+Shows off row at (Of c) = (at < length row) × (off ≤ getD row at 0) × (c ≡ getD row at 0 - off)
+Shows off row at (Stops w) =
+    (2 ^ 63 < w) × (at ≤ length row → (f : ℕ → ℕ → List ℕ → Read) (l next : ℕ) → Taken l (λ q cs. cellOf off q cs f) row at next w)
+
+shows : {off : ℕ} {row : List ℕ} {at : ℕ} {r : Cell} → Celled off row at r → Shows off row at r
+shows {off} {row} {at} e =
+    subst (Shows off row at) (sym (e .is))
+    (pick-by (Shows off row at) (leb (length row) at) (λ t. (omega arith, λ i f l next. cell-ends off row at f i (leb-true (length row) at t)))
+    (λ t.
+    let l = leb-false (length row) at t in
+    pick-by (Shows off row at) (ltb (getD row at 0) off) (λ u. (omega arith, λ i f m next. cell-less off row at f l (ltb-true (getD row at 0) off u)))
+    (λ u. (l, ltb-false (getD row at 0) off u, refl))))
+
+module _ {off : ℕ} {row : List ℕ} {at : ℕ} {r : Cell} (e : Celled off row at r) where
+  shown : (s : Cell) → r ≡ s → Shows off row at s
+  shown s q = subst (Shows off row at) q (shows e)
+
+  pub cell-over : {w : ℕ} → r ≡ Stops w → 2 ^ 63 < w
+  cell-over {w} q = shown (Stops w) q .0
+
+  pub cell-stops : {w : ℕ} → r ≡ Stops w → at ≤ length row → (f : ℕ → ℕ → List ℕ → Read) {l next : ℕ} → Taken l (λ q cs. cellOf off q cs f) row at next w
+  cell-stops {w} q i f {l} {next} = shown (Stops w) q .1 i f l next
+
+  pub cell-in : {c : ℕ} → r ≡ Of c → at < length row
+  cell-in {c} q = shown (Of c) q .0
+
+  pub cell-of : {c : ℕ} → r ≡ Of c → (f : ℕ → ℕ → List ℕ → Read) {l next w : ℕ} → Taken l (f c) row (at + 1) next w
+      → Taken l (λ q cs. cellOf off q cs f) row at next w
+  cell-of {c} q f {l} {next} {w} t =
+      let h = shown (Of c) q in
+      cell-found off row at f (h .0) (h .1) (subst (λ (x : ℕ). Taken l (f x) row (at + 1) next w) (h .2) t)
 
 pub cell-then : (off q : ℕ) (cs : List ℕ) (f : ℕ → ℕ → List ℕ → Read) → cellOf off q cs f ≡ then (cellOf off q cs (λ c. read c)) f
 unfolding cellOf

@@ -2,4 +2,5 @@
 pub mod Cells
 pub mod Leaves
 pub mod Takes
-pub mod Trees
+pub mod Calls
+pub mod kinds

@@ -4,7 +4,7 @@
 --   Took      what a word says of what is read: a number below the limit is exact, 2^63 is at least a bound that falls by one with each depth
 --   Taken     of a row that is the front of the cells, whatever cells and stop: 14 and 15 are told apart by them alone
 --   TakenBy   what a visit of a kind reads, with words a and b, where its parts have a depth left
---   celled    the next cell of a row
+--   Celled    the next cell of a row
 -- Assumes nothing.
 use mathlib.Core.Path.{_≡_}
 use mathlib.Core.Bool.{Bool}
@@ -21,8 +21,8 @@ use Rattle.grammar.specs.declared.refusal.Refusal.the-variants.{TooDeep, NoRoom
 use Rattle.grammar.specs.Kind.{Kind}
 use Rattle.grammar.specs.Plan.{sizeIn, ruleIn}
 use Rattle.walk.specs.Run.{Read, read, wrong, follow, run}
-use Rattle.taking.specs.declared.cells.Cell.{Cell}
-use Rattle.taking.specs.declared.cells.Cell.the-variants.{Of, Stops}
+use Rattle.taking.specs.declared.own.Cell.{Cell}
+use Rattle.taking.specs.declared.own.Cell.the-variants.{Of, Stops}
 
 unfoldable pub wordOf : Joined → ℕ
 wordOf (Exact n) = n
@@ -46,7 +46,5 @@ TakenBy k plan p a b left off row at next r =
     Taken (2 ^ 62 + (200 - left)) (follow (run (ruleIn plan p) left) off (k .rule a b p (sizeIn plan) .tree)) row at next r
 
 -- "15: the cells run out", or 14; "a cell less than k under a shift"
-abbrev pub celled : ℕ → List ℕ → ℕ → Cell
-celled off row at =
-    pick (leb (length row) at) (Stops (2 ^ 63 + 3))
-    (pick (ltb (getD row at 0) off) (Stops (2 ^ 63 + 2)) (Of (getD row at 0 - off)))
+pub record Celled (off : ℕ) (row : List ℕ) (at : ℕ) (r : Cell) : Type 0 where
+  pub is : r ≡ pick (leb (length row) at) (Stops (2 ^ 63 + 3)) (pick (ltb (getD row at 0) off) (Stops (2 ^ 63 + 2)) (Of (getD row at 0 - off)))

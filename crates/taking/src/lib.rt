@@ -1,3 +1,3 @@
 // The walk that reads, over a plan: from cells to a number.
-pub mod cells;
+pub mod own;
 pub mod take;

@@ -1,5 +1,5 @@
 -- A node of a plan, whatever its kind: its rule by its kind word, and what its checks show. A kind's own facts are in `kinds`.
---   rule-by, items-of   its rule, and its items by its rule
+--   rule-by, tree-of, items-of   its rule, and its tree and items by its rule
 --   checks-by     its checks are passed
 --   in-plan       a node's words are in the plan
 --   reads-..      other nodes of the plan
@@ -37,6 +37,9 @@ pub rule-by : (plan p : List ℕ) (i : ℕ) {k : ℕ} → kindWord plan i ≡ k
 unfolding ruleIn
 rule-by plan p i e = ap (λ k. kindIn k .rule (aWord plan i) (bWord plan i) p (before (sizeIn plan) i)) e
 
+pub tree-of : {q r : Rule} → q ≡ r → q .tree ≡ r .tree
+tree-of e = ap (λ (r : Rule). r .tree) e
+
 pub items-of : {q r : Rule} → q ≡ r → {n : ℕ} → q .items n ≡ r .items n
 items-of e {n} = ap (λ (r : Rule). r .items n) e
 
@@ -55,6 +58,9 @@ module _ {plan p : List ℕ} {i : ℕ} (r : Reading plan p i) where
 
   pub in-plan : (4 * i + 3 < length plan) × (length plan ≤ 1024)
   in-plan = (omega (arith, r .node, r .walks .long), r .walks .short)
+
+  pub reads-in : 4 * i + 3 < length plan
+  reads-in = in-plan .0
 
   -- another node of the plan
   abbrev pub reads-at : (j : ℕ) → j < r .walks .count → Reading plan p j
@@ -76,11 +82,14 @@ module _ {plan p : List ℕ} {i : ℕ} (r : Reading plan p i) where
 
   -- ---- both parts
   module _ (l : Lower plan i) where
-    abbrev pub first-reads : Reading plan p (aWord plan i)
+    abbrev first-reads : Reading plan p (aWord plan i)
     first-reads = reads-lower (aWord plan i) (l .first)
 
-    abbrev pub second-reads : Reading plan p (bWord plan i)
+    abbrev second-reads : Reading plan p (bWord plan i)
     second-reads = reads-lower (bWord plan i) (l .second)
+
+    pub both-reads : Reading plan p (aWord plan i) × Reading plan p (bWord plan i)
+    both-reads = (first-reads, second-reads)
 
     pub parts-in : (4 * aWord plan i + 3 < length plan) × (4 * bWord plan i + 3 < length plan)
     parts-in = (omega (arith, first-reads .node, r .walks .long), omega (arith, second-reads .node, r .walks .long))

@@ -1,6 +1,6 @@
 -- A dep of a plan: its seconds, as `grammar::kinds::dep` and the walks need them, and its rule by the plan's sizes.
 --   choosing    what is known of its first part and of its seconds
---   dep-rule    its rule; dep-tree with the plan's sizes
+--   dep-by      a dep's rule, by its seconds; dep-rule the rule of such a node
 --   first-of, second-of, second-place, dep-least   of the second that number x of the first part chooses
 --   dep-items, dep-place   its items, and the place of the second's word
 -- Assumes nothing.
@@ -114,8 +114,8 @@ module _ {plan p : List ℕ} {i : ℕ} (r : Reading plan p i) (e : kindWord plan
     seconds = λ x l. record { walks = r .walks; node = second-in x l };
   }
 
-  pub dep-rule : ruleIn plan p i ≡ depRule (total z cs) (secondsOf z cs) a cs
-  dep-rule =
+  seconds-rule : ruleIn plan p i ≡ depRule (total z cs) (secondsOf z cs) a cs
+  seconds-rule =
       let h = rw count-is at (rw dep-lower at (rule-by plan p i e)) in
       rw (total-before z i cs lower, seconds-before z i cs lower) at h
 
@@ -154,12 +154,15 @@ module _ {plan p : List ℕ} {a b : ℕ} (d : Choosing plan p a b) where
         rw (seconds-second (sizeIn plan) seconds (d .alike) many k c, run-at p b (firsts plan a) (d .words .inside) k o)
         (n .walks .some (getD p (b + k) 0) (n .node)))
 
+pub dep-rule : {plan p : List ℕ} {i : ℕ} → Reading plan p i → kindWord plan i ≡ 6 → ruleIn plan p i ≡ depKind .rule (aWord plan i) (bWord plan i) p (sizeIn plan)
+dep-rule r k = seconds-rule r k ∙ sym (dep-by (choosing r k))
+
 -- ---- a visit
 module _ {plan p : List ℕ} {i n : ℕ} (v : Visits plan p i n) (k : kindWord plan i ≡ 6) {q : Pair}
     (e : q ≡ Dep.split (secondsOf (sizeIn plan) (take (firsts plan (aWord plan i)) (drop (bWord plan i) p))) n) where
   dep-chosen : ruleIn plan p i .items n ≡ chosen (aWord plan i) (take (firsts plan (aWord plan i)) (drop (bWord plan i) p)) q
   unfolding depRule
-  dep-chosen = items-of (dep-rule (visited v) k) ∙ ap (chosen (aWord plan i) (take (firsts plan (aWord plan i)) (drop (bWord plan i) p))) (sym e)
+  dep-chosen = items-of (seconds-rule (visited v) k) ∙ ap (chosen (aWord plan i) (take (firsts plan (aWord plan i)) (drop (bWord plan i) p))) (sym e)
 
   in-first : q .first < firsts plan (aWord plan i)
   in-first = first-of (choosing (visited v) k) (q .first) (next-by v dep-chosen .0 .visits .below)

@@ -8,12 +8,12 @@ use mathlib.Core.List.{List, [], _∷_}
 use Prim.Native.Nat.{ℕ, _^_, _≤_}
 use lib.Dec.{eqb, ltb}
 use borrow.Author.Tests.{leb-true, eqb-true}
-use Rattle.grammar.specs.Rule.{part}
+use Rattle.grammar.specs.Rule.{part, done, reads}
 use Rattle.grammar.specs.Plan.{sizeIn, kindWord, aWord, bWord, ruleIn}
 use Rattle.grammar.specs.kinds.Shift.{shiftRule}
 use Rattle.walk.specs.Plan.{Reading, Visits, Raised}
 use Rattle.walk.proofs.Visit.{visited}
-use Rattle.walk.proofs.Nodes.{rule-by, items-of, checks-by}
+use Rattle.walk.proofs.Nodes.{rule-by, tree-of, items-of, checks-by}
 
 module _ {plan p : List ℕ} {i : ℕ} (r : Reading plan p i) (k : kindWord plan i ≡ 3) where
   pub shift-lower : ltb (aWord plan i) i ≡ true
@@ -43,6 +43,10 @@ module _ {plan p : List ℕ} {i : ℕ} (r : Reading plan p i) (k : kindWord plan
 
   pub shift-rule : ruleIn plan p i ≡ shiftRule (sizeIn plan (aWord plan i)) (aWord plan i) (bWord plan i)
   shift-rule = rw shift-lower at (rule-by plan p i k)
+
+  pub shift-tree : ruleIn plan p i .tree ≡ reads (aWord plan i) (bWord plan i) (λ m. done m)
+  unfolding shiftRule
+  shift-tree = tree-of shift-rule
 
 pub shift-items : {plan p : List ℕ} {i n : ℕ} → Visits plan p i n → kindWord plan i ≡ 3
     → ruleIn plan p i .items n ≡ part (aWord plan i) n (bWord plan i) ∷ []

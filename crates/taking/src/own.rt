@@ -8,7 +8,7 @@ ghost use Rattle.grammar.specs.kinds.Below.{belowRule};
 ghost use Rattle.grammar.specs.kinds.Nats.{natsRule};
 ghost use Rattle.grammar.specs.kinds.Pool.{poolRule};
 ghost use Rattle.walk.specs.Run.{Read, follow};
-ghost use Rattle.taking.specs.Took.{wordOf, celled, Taken};
+ghost use Rattle.taking.specs.Took.{wordOf, Celled, Taken};
 use grammar::kinds::Place;
 use grammar::kinds::below;
 use grammar::kinds::pool;
@@ -42,7 +42,7 @@ pub enum Cell {
 
 // 15: "a cell less than k under a shift"
 fn cell_at(row: &[u64], at: usize, off: u64) -> Cell
-    ensures { λ r. ⌜ r ≡ celled off (now (row .entry)) at ⌝ }
+    ensures { λ r. ⌜ Celled off (now (row .entry)) at r ⌝ }
 {
     if row.len() <= at {
         return Cell::Stops(ENDED);
