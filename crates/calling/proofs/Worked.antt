@@ -5,35 +5,9 @@ use mathlib.Core.Path.{_≡_, refl}
 use mathlib.Core.List.{List, [], _∷_, map}
 use Prim.Native.Nat.{ℕ}
 use Prim.Native.String.{String}
-use Rattle.numbers.specs.Size.{plus, times, less}
-use Rattle.numbers.specs.Root.{rootBy, root}
-use Rattle.numbers.specs.Or
-use Rattle.numbers.specs.Cons
-use Rattle.numbers.specs.Dep.{inTurn}
-use Rattle.numbers.specs.Dep
-use Rattle.numbers.specs.Except
-use Rattle.graph.specs.Ways.{has, via}
-use Rattle.graph.specs.Lowest.{lowest}
-use Rattle.grammar.specs.Refusals.{numberOf}
-use Rattle.grammar.specs.Checks.{row, different, every, total}
-use Rattle.grammar.specs.Nodes.{ruleAt, rowAt}
-use Rattle.grammar.specs.kinds.Below.{belowRule}
-use Rattle.grammar.specs.kinds.Nats.{natsRule}
-use Rattle.grammar.specs.kinds.Pool.{poolRule}
-use Rattle.grammar.specs.kinds.Shift.{shiftRule}
-use Rattle.grammar.specs.kinds.Or.{orRule}
-use Rattle.grammar.specs.kinds.Cons.{consRule}
-use Rattle.grammar.specs.kinds.Dep.{depRule}
-use Rattle.grammar.specs.kinds.Except.{exceptRule}
-use Rattle.grammar.specs.kinds.Fix.{passRule}
-use Rattle.grammar.specs.Sizes.{onward, scan, sizes}
-use Rattle.grammar.specs.Verdict.{leads, unguarded, exceptOnCycle, cycles, settled, verdict}
-use Rattle.grammar.specs.kinds.Dep.{secondsOf}
-use Rattle.walk.specs.Run.{cellOf, follow}
 use Rattle.walk.specs.Run.{run as reading}
-use Rattle.grammar.specs.kinds.Pool.{placeOf}
-use Rattle.walk.specs.Walk.{shown, walk, cells}
-use Rattle.walk.specs.Room.{tallied}
+use Rattle.walk.specs.Walk.{cells}
+use Rattle.walk.proofs.Opened.{walking}
 use Rattle.checked.specs.Fits.{fitted}
 use Rattle.checked.specs.Item.{frontOf}
 use Rattle.cases.specs.Write.{walks, writes}
@@ -43,7 +17,7 @@ use Rattle.rows.specs.WriteRow as Written
 use Rattle.rows.specs.ReadRow.{gather, readsRowPlanned, readsRow}
 use Rattle.rows.specs.Reader.{next, nextPlanned, nextOf}
 use Rattle.lines.specs.Ascii.{bytes}
-use Rattle.lines.specs.Numeral.{run, valueFrom, wellFormed, numeral}
+use Rattle.lines.specs.Numeral.{valueFrom, wellFormed, numeral}
 use Rattle.lines.specs.Decimal.{decimalBy, decimal}
 use Rattle.lines.specs.Line.{ended, words, numberOf as numberOfWord, numbersOf, lineAt}
 use Rattle.pages.specs.Texts.{unreadableText, numberText, numberLine, itemText, refusedText, refusedLine, refusedItem, itemsText, spaced, cellsText}
@@ -79,5 +53,5 @@ prints =
     ∷ []
 
 worked : map asked prints ≡ map expected prints
-unfolding plus times less rootBy root Or.split Or.join Cons.split Cons.join inTurn Dep.split Dep.join Dep.total Except.split Except.join has via lowest numberOf row different every total belowRule natsRule poolRule shiftRule orRule consRule depRule exceptRule passRule ruleAt rowAt onward scan sizes leads unguarded exceptOnCycle cycles settled verdict secondsOf cellOf placeOf follow reading shown walk cells tallied fitted frontOf walks writes found finds reads writesRowPlanned writesRow Written.inTurn Written.rowOf gather readsRowPlanned readsRow next nextPlanned nextOf run valueFrom wellFormed numeral decimalBy decimal ended words numberOfWord numbersOf lineAt unreadableText numberText numberLine itemText refusedText refusedLine refusedItem itemsText spaced cellsText readable wordSize same checkText readText writeText rowText asksBy asksText caseText askText wayText callOf callText lineText lineSize after lineOf tableAt saidAt nextAt nextKnown printedBy printed
+unfolding walking reading fitted frontOf walks writes found finds reads writesRowPlanned writesRow Written.inTurn Written.rowOf gather readsRowPlanned readsRow next nextPlanned nextOf valueFrom wellFormed numeral decimalBy decimal ended words numberOfWord numbersOf lineAt unreadableText numberText numberLine itemText refusedText refusedLine refusedItem itemsText spaced cellsText readable wordSize same checkText readText writeText rowText asksBy asksText caseText askText wayText callOf callText lineText lineSize after lineOf tableAt saidAt nextAt nextKnown printedBy printed
 worked = refl

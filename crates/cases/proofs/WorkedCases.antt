@@ -4,36 +4,10 @@
 use mathlib.Core.Path.{_≡_, refl}
 use mathlib.Core.List.{List, [], _∷_, map}
 use Prim.Native.Nat.{ℕ, _+_}
-use Rattle.numbers.specs.Size.{plus, times, less}
-use Rattle.numbers.specs.Root.{rootBy, root}
-use Rattle.numbers.specs.Or
-use Rattle.numbers.specs.Cons
-use Rattle.numbers.specs.Dep.{inTurn}
-use Rattle.numbers.specs.Dep
-use Rattle.numbers.specs.Except
-use Rattle.graph.specs.Ways.{has, via}
-use Rattle.graph.specs.Lowest.{lowest}
-use Rattle.grammar.specs.Refusals.{numberOf}
-use Rattle.grammar.specs.Checks.{row, different, every, total}
-use Rattle.grammar.specs.Nodes.{ruleAt, rowAt}
-use Rattle.grammar.specs.kinds.Below.{belowRule}
-use Rattle.grammar.specs.kinds.Nats.{natsRule}
-use Rattle.grammar.specs.kinds.Pool.{poolRule}
-use Rattle.grammar.specs.kinds.Shift.{shiftRule}
-use Rattle.grammar.specs.kinds.Or.{orRule}
-use Rattle.grammar.specs.kinds.Cons.{consRule}
-use Rattle.grammar.specs.kinds.Dep.{depRule}
-use Rattle.grammar.specs.kinds.Except.{exceptRule}
-use Rattle.grammar.specs.kinds.Fix.{passRule}
-use Rattle.grammar.specs.Sizes.{onward, scan, sizes}
-use Rattle.grammar.specs.Verdict.{leads, unguarded, exceptOnCycle, cycles, settled, verdict}
 use Rattle.grammar.specs.Sizes.{rulesOf}
-use Rattle.grammar.specs.kinds.Dep.{secondsOf}
-use Rattle.walk.specs.Walk.{shown, walk, depth}
+use Rattle.walk.specs.Walk.{walk, depth}
 use Rattle.walk.specs.Walk
-use Rattle.walk.specs.Room.{tallied}
-use Rattle.walk.specs.Run.{cellOf, follow, run}
-use Rattle.grammar.specs.kinds.Pool.{placeOf}
+use Rattle.walk.proofs.Opened.{walking}
 use Rattle.checked.specs.Fits.{fitted}
 use Rattle.cases.specs.Write.{walks, writes, WriteAnswer, written}
 use Rattle.cases.specs.Read.{found, finds, reads, ReadAnswer, readOf}
@@ -108,5 +82,5 @@ cases =
     ∷ []
 
 pub worked : map asked cases ≡ map expected cases
-unfolding asked expected plus times less rootBy root Or.split Or.join Cons.split Cons.join inTurn Dep.split Dep.join Dep.total Except.split Except.join has via lowest numberOf row different every total belowRule natsRule poolRule shiftRule orRule consRule depRule exceptRule passRule ruleAt rowAt onward scan sizes leads unguarded exceptOnCycle cycles settled verdict secondsOf shown walk Walk.cells tallied fitted cellOf placeOf follow run walks writes written found finds reads readOf
+unfolding asked expected walking fitted walks writes written found finds reads readOf
 worked = refl

@@ -17,4 +17,5 @@ pub mod Turns
 pub mod Joins
 pub mod Places
 pub mod Known
+pub mod Opened
 pub mod Stepping

@@ -5,36 +5,11 @@ use mathlib.Core.Path.{_≡_, refl}
 use mathlib.Core.List.{List, [], _∷_, map}
 use Prim.Native.Nat.{ℕ}
 use Prim.Native.String.{String}
-use Rattle.numbers.specs.Size.{plus, times, less}
-use Rattle.numbers.specs.Root.{rootBy, root}
-use Rattle.numbers.specs.Or
-use Rattle.numbers.specs.Cons
-use Rattle.numbers.specs.Dep.{inTurn}
-use Rattle.numbers.specs.Dep
-use Rattle.numbers.specs.Except
-use Rattle.graph.specs.Ways.{has, via}
-use Rattle.graph.specs.Lowest.{lowest}
-use Rattle.grammar.specs.Refusals.{numberOf}
-use Rattle.grammar.specs.Checks.{row, different, every, total}
-use Rattle.grammar.specs.Nodes.{ruleAt, rowAt}
-use Rattle.grammar.specs.kinds.Below.{belowRule}
-use Rattle.grammar.specs.kinds.Nats.{natsRule}
-use Rattle.grammar.specs.kinds.Pool.{poolRule}
-use Rattle.grammar.specs.kinds.Shift.{shiftRule}
-use Rattle.grammar.specs.kinds.Or.{orRule}
-use Rattle.grammar.specs.kinds.Cons.{consRule}
-use Rattle.grammar.specs.kinds.Dep.{depRule}
-use Rattle.grammar.specs.kinds.Except.{exceptRule}
-use Rattle.grammar.specs.kinds.Fix.{passRule}
-use Rattle.grammar.specs.Sizes.{onward, scan, sizes}
-use Rattle.grammar.specs.Verdict.{leads, unguarded, exceptOnCycle, cycles, settled, verdict}
-use Rattle.grammar.specs.kinds.Dep.{secondsOf}
-use Rattle.walk.specs.Walk.{shown, walk, cells}
-use Rattle.walk.specs.Room.{tallied}
+use Rattle.walk.proofs.Opened.{walking}
 use Rattle.checked.specs.Fits.{fitted}
 use Rattle.cases.specs.Write.{walks, writes}
 use Rattle.lines.specs.Ascii.{bytes}
-use Rattle.lines.specs.Numeral.{run, valueFrom, wellFormed, numeral}
+use Rattle.lines.specs.Numeral.{valueFrom, wellFormed, numeral}
 use Rattle.lines.specs.Decimal.{decimalBy, decimal}
 use Rattle.lines.specs.Line.{ended, words, numberOf as numberOfWord, numbersOf, lineAt, lineText}
 use Rattle.printing.specs.Texts.{unreadableText, refusedText, caseText, caseRefusedText}
@@ -72,5 +47,5 @@ prints =
     ∷ []
 
 worked : map asked prints ≡ map expected prints
-unfolding plus times less rootBy root Or.split Cons.split Dep.split inTurn Except.split has via lowest numberOf row different every total belowRule natsRule poolRule shiftRule orRule consRule depRule exceptRule passRule ruleAt rowAt onward scan sizes leads unguarded exceptOnCycle cycles settled verdict secondsOf shown walk cells tallied fitted walks writes run valueFrom wellFormed numeral decimalBy decimal ended words numberOfWord numbersOf lineAt lineText unreadableText refusedText caseText caseRefusedText tableLine poolLine oneAt numbersBy numbersFrom inputOf started caseLine casesOf told printed
+unfolding walking fitted walks writes valueFrom wellFormed numeral decimalBy decimal ended words numberOfWord numbersOf lineAt lineText unreadableText refusedText caseText caseRefusedText tableLine poolLine oneAt numbersBy numbersFrom inputOf started caseLine casesOf told printed
 worked = refl

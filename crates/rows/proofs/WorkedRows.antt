@@ -4,36 +4,9 @@
 use mathlib.Core.Path.{_≡_, refl}
 use mathlib.Core.List.{List, [], _∷_, map}
 use Prim.Native.Nat.{ℕ}
-use Rattle.numbers.specs.Size.{plus, times, less}
-use Rattle.numbers.specs.Root.{rootBy, root}
-use Rattle.numbers.specs.Or
-use Rattle.numbers.specs.Cons
-use Rattle.numbers.specs.Dep.{inTurn}
-use Rattle.numbers.specs.Dep
-use Rattle.numbers.specs.Except
-use Rattle.graph.specs.Ways.{has, via}
-use Rattle.graph.specs.Lowest.{lowest}
-use Rattle.grammar.specs.Refusals.{numberOf}
-use Rattle.grammar.specs.Checks.{row, different, every, total}
-use Rattle.grammar.specs.Nodes.{ruleAt, rowAt}
-use Rattle.grammar.specs.kinds.Below.{belowRule}
-use Rattle.grammar.specs.kinds.Nats.{natsRule}
-use Rattle.grammar.specs.kinds.Pool.{poolRule}
-use Rattle.grammar.specs.kinds.Shift.{shiftRule}
-use Rattle.grammar.specs.kinds.Or.{orRule}
-use Rattle.grammar.specs.kinds.Cons.{consRule}
-use Rattle.grammar.specs.kinds.Dep.{depRule}
-use Rattle.grammar.specs.kinds.Except.{exceptRule}
-use Rattle.grammar.specs.kinds.Fix.{passRule}
-use Rattle.grammar.specs.Sizes.{onward, scan, sizes}
-use Rattle.grammar.specs.Verdict.{leads, unguarded, exceptOnCycle, cycles, settled, verdict}
+use Rattle.grammar.specs.Checks.{row}
 use Rattle.grammar.specs.Sizes.{rulesOf}
-use Rattle.grammar.specs.kinds.Dep.{secondsOf}
-use Rattle.walk.specs.Walk.{shown, walk}
-use Rattle.walk.specs.Walk
-use Rattle.walk.specs.Room.{tallied}
-use Rattle.walk.specs.Run.{cellOf, follow, run}
-use Rattle.grammar.specs.kinds.Pool.{placeOf}
+use Rattle.walk.proofs.Opened.{walking}
 use Rattle.checked.specs.Fits.{fitted}
 use Rattle.checked.specs.Item.{frontOf}
 use Rattle.cases.proofs.Worked.{L}
@@ -101,5 +74,5 @@ rows =
     ∷ []
 
 pub worked : map asked rows ≡ map expected rows
-unfolding asked expected plus times less rootBy root Or.split Or.join Cons.split Cons.join inTurn Dep.split Dep.join Dep.total Except.split Except.join has via lowest numberOf row different every total belowRule natsRule poolRule shiftRule orRule consRule depRule exceptRule passRule ruleAt rowAt onward scan sizes leads unguarded exceptOnCycle cycles settled verdict secondsOf shown walk Walk.cells tallied fitted cellOf placeOf follow run frontOf rowAnswer writesRowPlanned writesRow Written.inTurn Written.rowOf gather readsRowPlanned readsRow next nextPlanned nextOf nextAnswer
+unfolding asked expected walking fitted frontOf rowAnswer writesRowPlanned writesRow Written.inTurn Written.rowOf gather readsRowPlanned readsRow next nextPlanned nextOf nextAnswer
 worked = refl

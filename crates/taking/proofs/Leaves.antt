@@ -14,7 +14,6 @@ use lib.ListN.{length, take, drop, length-take}
 use borrow.Author.Tests.{ltb-true}
 use Rattle.numbers.specs.Pick.{pick}
 use Rattle.numbers.specs.Joined.{limit, capped}
-use Rattle.numbers.specs.declared.joined.Joined.{Joined}
 use Rattle.graph.specs.Ways.{has}
 use Rattle.grammar.specs.Rule.{Tree, done, fails, takes}
 use Rattle.grammar.specs.Placed.{counted, placed}

@@ -9,3 +9,4 @@ pub mod Visit
 pub mod Nodes
 pub mod kinds
 pub mod Plans
+pub mod Opened

@@ -8,25 +8,16 @@ use mathlib.Core.List.{List, [], _∷_}
 use Prim.Native.Nat.{ℕ, zero, suc, _*_, _^_, _≤_, _<_}
 use native.Mathlib.Omega.{arith}
 use lib.ListN.{length}
-use Rattle.numbers.specs.Size.{endless, sizeOf, plus, times, less}
-use Rattle.graph.specs.Ways.{has}
+use Rattle.numbers.specs.Size.{endless, sizeOf}
 use Rattle.grammar.specs.Rule.{Rule}
-use Rattle.grammar.specs.Checks.{different, every, total}
 use Rattle.grammar.specs.Kind.{before}
 use Rattle.grammar.specs.Law.{Holds, Fit}
 use Rattle.grammar.specs.Nodes.{kinds, unknown, kindIn}
 use Rattle.grammar.specs.Plan.{sizeIn, kindWord, nodeIn, ruleIn}
-use Rattle.grammar.specs.kinds.Below.{belowRule}
-use Rattle.grammar.specs.kinds.Nats.{natsRule}
-use Rattle.grammar.specs.kinds.Pool.{poolRule}
-use Rattle.grammar.specs.kinds.Shift.{shiftRule}
-use Rattle.grammar.specs.kinds.Or.{orRule}
-use Rattle.grammar.specs.kinds.Cons.{consRule}
-use Rattle.grammar.specs.kinds.Dep.{depRule}
-use Rattle.grammar.specs.kinds.Except.{exceptRule}
 use Rattle.grammar.specs.kinds.Fix.{passRule}
 use Rattle.grammar.proofs.KindLaw.{fit-some, KindLaw, each-kind}
 use Rattle.grammar.proofs.Kept.{laws, unknown-law}
+use Rattle.grammar.proofs.Opened.{rules}
 use Rattle.walk.specs.Plan.{Walkable, Visits}
 use Rattle.walk.proofs.kinds.Fix.{fix-rule}
 
@@ -78,7 +69,7 @@ ten P a b c d e f g h j k (suc (suc (suc (suc (suc (suc (suc (suc (suc zero)))))
 ten P a b c d e f g h j k (suc (suc (suc (suc (suc (suc (suc (suc (suc (suc i)))))))))) l = absurd (omega arith)
 
 pub trees-walk : Walkable trees words
-unfolding ruleIn belowRule natsRule poolRule shiftRule orRule consRule depRule exceptRule passRule sizeOf times plus less different every has total
+unfolding ruleIn rules sizeOf
 trees-walk =
     plan-walks trees words 10
     (ten (λ i. Holds (kindIn (kindWord trees i) .checks (nodeIn trees words 10 i) (before (sizeIn trees) i)))
