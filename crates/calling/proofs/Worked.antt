@@ -6,7 +6,6 @@ use mathlib.Core.List.{List, [], _∷_, map}
 use Prim.Native.Nat.{ℕ}
 use Prim.Native.String.{String}
 use Rattle.walk.specs.Run.{run as reading}
-use Rattle.walk.specs.Walk.{cells}
 use Rattle.walk.proofs.Opened.{walking}
 use Rattle.checked.specs.Fits.{fitted}
 use Rattle.checked.specs.Item.{frontOf}
@@ -17,7 +16,7 @@ use Rattle.rows.specs.WriteRow as Written
 use Rattle.rows.specs.ReadRow.{gather, readsRowPlanned, readsRow}
 use Rattle.rows.specs.Reader.{next, nextPlanned, nextOf}
 use Rattle.lines.specs.Ascii.{bytes}
-use Rattle.lines.specs.Numeral.{valueFrom, wellFormed, numeral}
+use Rattle.lines.specs.Numeral.{run, valueFrom, wellFormed, numeral}
 use Rattle.lines.specs.Decimal.{decimalBy, decimal}
 use Rattle.lines.specs.Line.{ended, words, numberOf as numberOfWord, numbersOf, lineAt}
 use Rattle.pages.specs.Texts.{unreadableText, numberText, numberLine, itemText, refusedText, refusedLine, refusedItem, itemsText, spaced, cellsText}
@@ -53,5 +52,5 @@ prints =
     ∷ []
 
 worked : map asked prints ≡ map expected prints
-unfolding walking reading fitted frontOf walks writes found finds reads writesRowPlanned writesRow Written.inTurn Written.rowOf gather readsRowPlanned readsRow next nextPlanned nextOf valueFrom wellFormed numeral decimalBy decimal ended words numberOfWord numbersOf lineAt unreadableText numberText numberLine itemText refusedText refusedLine refusedItem itemsText spaced cellsText readable wordSize same checkText readText writeText rowText asksBy asksText caseText askText wayText callOf callText lineText lineSize after lineOf tableAt saidAt nextAt nextKnown printedBy printed
+unfolding walking reading fitted frontOf walks writes found finds reads writesRowPlanned writesRow Written.inTurn Written.rowOf gather readsRowPlanned readsRow next nextPlanned nextOf run valueFrom wellFormed numeral decimalBy decimal ended words numberOfWord numbersOf lineAt unreadableText numberText numberLine itemText refusedText refusedLine refusedItem itemsText spaced cellsText readable wordSize same checkText readText writeText rowText asksBy asksText caseText askText wayText callOf callText lineText lineSize after lineOf tableAt saidAt nextAt nextKnown printedBy printed
 worked = refl

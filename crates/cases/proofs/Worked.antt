@@ -74,5 +74,5 @@ tables =
     ∷ []
 
 pub checked : map asked tables ≡ map expected tables
-unfolding asked expected tables answer
+unfolding asked expected checking answer
 checked = refl

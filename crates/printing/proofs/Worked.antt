@@ -9,7 +9,7 @@ use Rattle.walk.proofs.Opened.{walking}
 use Rattle.checked.specs.Fits.{fitted}
 use Rattle.cases.specs.Write.{walks, writes}
 use Rattle.lines.specs.Ascii.{bytes}
-use Rattle.lines.specs.Numeral.{valueFrom, wellFormed, numeral}
+use Rattle.lines.specs.Numeral.{run, valueFrom, wellFormed, numeral}
 use Rattle.lines.specs.Decimal.{decimalBy, decimal}
 use Rattle.lines.specs.Line.{ended, words, numberOf as numberOfWord, numbersOf, lineAt, lineText}
 use Rattle.printing.specs.Texts.{unreadableText, refusedText, caseText, caseRefusedText}
@@ -47,5 +47,5 @@ prints =
     ∷ []
 
 worked : map asked prints ≡ map expected prints
-unfolding walking fitted walks writes valueFrom wellFormed numeral decimalBy decimal ended words numberOfWord numbersOf lineAt lineText unreadableText refusedText caseText caseRefusedText tableLine poolLine oneAt numbersBy numbersFrom inputOf started caseLine casesOf told printed
+unfolding walking fitted walks writes run valueFrom wellFormed numeral decimalBy decimal ended words numberOfWord numbersOf lineAt lineText unreadableText refusedText caseText caseRefusedText tableLine poolLine oneAt numbersBy numbersFrom inputOf started caseLine casesOf told printed
 worked = refl
