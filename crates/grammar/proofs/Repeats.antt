@@ -1,9 +1,10 @@
 -- Repeated words of the pool.
---   Among       whether x is among the words from i up to `to`
+--   Among       whether x is among some words: seen before i, or from there on
 --   Differing   the words up to i differ from all that come after them
 -- Assumes nothing.
-use mathlib.Core.Path.{_≡_, refl, sym, _∙_}
+use mathlib.Core.Path.{_≡_, refl, sym, subst, _∙_}
 use mathlib.Core.Bool.{Bool, true, false, not, _&&_, _||_}
+use mathlib.Core.Logic.{_⊎_, inl, inr}
 use mathlib.Core.List.{List, [], _∷_}
 use Prim.Native.Nat.{ℕ, zero, suc, _+_, _-_, _≤_, _<_}
 use native.Mathlib.Numerals.{add-one}
@@ -16,30 +17,43 @@ use Rattle.graph.specs.Ways.{has}
 use Rattle.grammar.specs.Checks.{different}
 use Rattle.grammar.proofs.Runs.{run-long, run-at}
 
--- whether x is among the words from i up to `to`
-pub record Among (p : List ℕ) (from to x i : ℕ) : Type 0 where
+-- x is among the words before i, as `seen` says, or from i up to `to`
+pub record Among (p : List ℕ) (from to x : ℕ) (seen : Bool) (i : ℕ) : Type 0 where
   pub low : from ≤ i
   pub high : i ≤ to
-  pub is : has x (take (to - from) (drop from p)) ≡ has x (take (to - i) (drop i p))
+  pub is : has x (take (to - from) (drop from p)) ≡ (seen || has x (take (to - i) (drop i p)))
 
-pub among-all : {p : List ℕ} {from to x : ℕ} → from ≤ to → Among p from to x from
+pub among-all : {p : List ℕ} {from to x : ℕ} → from ≤ to → Among p from to x false from
 among-all l = record { low = omega arith; high = l; is = refl }
 
-module _ {p : List ℕ} {from to x i : ℕ} (in-p : to ≤ length p) (s : Among p from to x i) where
+module _ {p : List ℕ} {from to x : ℕ} {seen : Bool} {i : ℕ} (in-p : to ≤ length p) (s : Among p from to x seen i) where
   module _ (l : i < to) where
     one-more : has x (take (to - i) (drop i p)) ≡ (eqb x (getD p i 0) || has x (take (to - (i + 1)) (drop (i + 1) p)))
     unfolding has
     one-more = let e : to - i ≡ suc (to - suc i) = omega arith in rw (e, drop-cons p i 0 (omega arith), add-one)
 
-    pub among-hit : getD p i 0 ≡ x → true ≡ has x (take (to - from) (drop from p))
-    among-hit e = rw (s .is, one-more, eq-eqb x (getD p i 0) (sym e))
+    among-hit : getD p i 0 ≡ x → Among p from to x true (i + 1)
+    among-hit e = record { low = omega (arith, s .low); high = omega arith; is = s .is ∙ rw (one-more, eq-eqb x (getD p i 0) (sym e), or-true seen) }
+      where
+        or-true : (b : Bool) → (b || true) ≡ true
+        or-true true = refl
+        or-true false = refl
 
-    pub among-more : (getD p i 0 ≡ x → ⊥) → Among p from to x (i + 1)
+    among-more : (getD p i 0 ≡ x → ⊥) → Among p from to x seen (i + 1)
     among-more f = record { low = omega (arith, s .low); high = omega arith; is = s .is ∙ rw (one-more, ne-eqb x (getD p i 0) (λ e. f (sym e))) }
 
-  pub among-none : to ≤ i → false ≡ has x (take (to - from) (drop from p))
+  pub among-turn : i < to → {now : Bool} → {A B : Type 0} → (A → getD p i 0 ≡ x) → (B → getD p i 0 ≡ x → ⊥)
+      → (A × (now ≡ true)) ⊎ (B × (now ≡ seen)) → Among p from to x now (i + 1)
+  among-turn l a b (inl q) = subst (λ (s : Bool). Among p from to x s (i + 1)) (sym (q .1)) (among-hit l (a (q .0)))
+  among-turn l a b (inr q) = subst (λ (s : Bool). Among p from to x s (i + 1)) (sym (q .1)) (among-more l (b (q .0)))
+
+  pub among-end : to ≤ i → seen ≡ has x (take (to - from) (drop from p))
   unfolding has
-  among-none l = let e : to - i ≡ 0 = omega arith in rw (s .is, e)
+  among-end l = let e : to - i ≡ 0 = omega arith in rw (s .is, e) (or-false seen)
+    where
+      or-false : (b : Bool) → b ≡ (b || false)
+      or-false true = refl
+      or-false false = refl
 
 drop-take : (m n : ℕ) (l : List ℕ) → drop m (take n l) ≡ take (n - m) (drop m l)
 drop-take zero n l = let e : n - 0 ≡ n = omega arith in rw e

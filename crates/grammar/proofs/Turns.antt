@@ -2,10 +2,11 @@
 --   Turning                       the loop's invariant, and its turns
 --   head-in                       the first of the seconds is in the plan
 --   finite-split, endless-split   a dep's split, of finite or endless seconds
+--   second-in, second-is          the second that a visit chooses, and what the visit shows
 -- Assumes nothing.
 use mathlib.Core.Path.{_≡_, sym, ap, _∙_}
 use mathlib.Core.Bool.{false}
-use mathlib.Core.List.{List, _∷_}
+use mathlib.Core.List.{List, [], _∷_}
 use Prim.Native.Nat.{ℕ, suc, _+_, _*_, _-_, _^_, _≤_, _<_}
 use native.Mathlib.Nat.{add-zero}
 use native.Mathlib.Numerals.{add-one}
@@ -13,17 +14,17 @@ use native.Mathlib.Omega.{arith}
 use lib.ListN.{length, getD, take, drop, drop-of-length-le}
 use lib.Seq.{drop-cons}
 use borrow.Author.Tests.{lt-ltb, le-ltb}
-use Rattle.numbers.specs.Size.{endless}
 use Rattle.numbers.specs.Cons.{pair}
 use Rattle.numbers.specs.Dep.{endlesses, inTurn}
 use Rattle.numbers.specs.Dep
 use Rattle.numbers.specs.declared.cons.Pair.{Pair}
 use Rattle.numbers.proofs.size.Laws.{sized-finite}
 use Rattle.grammar.specs.Checks.{count, allEndless, isEndless}
+use Rattle.grammar.specs.Rule.{part}
 use Rattle.grammar.specs.Plan.{sizeIn}
 use Rattle.grammar.proofs.Runs.{run-long, run-at, wordAt, run-fails}
 use Rattle.grammar.proofs.Tests.{finite-word}
-use Rattle.grammar.specs.kinds.Dep.{counts, secondsOf}
+use Rattle.grammar.specs.kinds.Dep.{chosen, counts, secondsOf}
 use Rattle.grammar.specs.Seconds.{firsts, headSize, DepIn}
 
 -- a pair whose first is k more
@@ -100,3 +101,16 @@ module _ {plan p : List ℕ} {a b : ℕ} (d : DepIn plan p a b) where
       → Dep.split (endlesses (firsts plan a)) n ≡ Dep.split (secondsOf (sizeIn plan) (take (firsts plan a) (drop b p))) n
   unfolding secondsOf Dep.split
   endless-split h n = rw (d .endless h, run-long p b (firsts plan a) (d .inside))
+
+-- ---- a visit: q is its split, and its first part's number is below that part's size
+module _ {plan p : List ℕ} {a b : ℕ} (d : DepIn plan p a b) (n : ℕ) {q : Pair} (e : q ≡ Dep.split (secondsOf (sizeIn plan) (take (firsts plan a) (drop b p))) n)
+    (l : Dep.split (secondsOf (sizeIn plan) (take (firsts plan a) (drop b p))) n .first < firsts plan a) where
+  first-low : q .first < firsts plan a
+  first-low = rw e l
+
+  pub second-in : b + q .first < length p
+  second-in = omega (arith, first-low, d .inside)
+
+  pub second-is : chosen a (take (firsts plan a) (drop b p)) (Dep.split (secondsOf (sizeIn plan) (take (firsts plan a) (drop b p))) n)
+      ≡ part a (q .first) 0 ∷ part (getD p (b + q .first) 0) (q .second) 0 ∷ []
+  second-is = ap (chosen a (take (firsts plan a) (drop b p))) (sym e) ∙ rw (run-at p b (firsts plan a) (d .inside) (q .first) first-low)

@@ -44,6 +44,21 @@ pub enum Weighed {
     Of(u64),
 }
 
+// What a visit shows: a tag cell, then a part at a number.
+pub struct Tagged {
+    pub tag: u64,
+    pub part: usize,
+    pub number: u64,
+}
+
+// What a visit shows: two parts, each at a number.
+pub struct Two {
+    pub first: usize,
+    pub x: u64,
+    pub second: usize,
+    pub y: u64,
+}
+
 // The number that a cell stands for by itself, or none.
 pub enum Place {
     At(u64),

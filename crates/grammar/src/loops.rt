@@ -10,12 +10,13 @@ fn among(pool: &[u64], from: usize, to: usize, x: u64) -> bool
     requires { ⌜ (from ≤ to) × (to ≤ length (now pool)) ⌝ }
     ensures { λ r. ⌜ r ≡ has x (take (to - from) (drop from (now (pool .entry)))) ⌝ }
 {
+    let mut seen = false;
     for i in from..to {
         if pool[i] == x {
-            return true;
+            seen = true;
         }
     }
-    false
+    seen
 }
 
 // Whether `count` words, from `at` on, are all different.

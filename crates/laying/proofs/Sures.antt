@@ -104,7 +104,7 @@ module _ {plan widths : List ℕ} {h : ℕ} (ws : Widths plan widths h) (i : ℕ
   width-nats k = width-by h (omega arith) (λ l p n v. (_, nats-items v k, (0, omega arith, tt)))
 
   pub width-pool : kindWord plan i ≡ 2 → Width plan i 1 (h + 1)
-  width-pool k = width-by h (omega arith) (λ l p n v. (_, pool-items v k, (0, omega arith, tt)))
+  width-pool k = width-by h (omega arith) (λ l p n v. (_, pool-items v k refl, (0, omega arith, tt)))
 
   module _ {x : ℕ} (e : x ≡ widthAt widths (aWord plan i)) where
     pub width-shift : kindWord plan i ≡ 3 → Width plan i x (h + 1)

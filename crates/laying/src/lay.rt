@@ -9,20 +9,14 @@ ghost use Rattle.walk.specs.Laid.{Laid, leftOf};
 ghost use Rattle.walk.specs.Plan.{Visits, Raised};
 use super::tally::NO_ROOM;
 use super::tally::TOO_DEEP;
-use grammar::kinds::AGAIN;
-use grammar::kinds::BELOW;
-use grammar::kinds::CONS;
-use grammar::kinds::DEP;
-use grammar::kinds::EXCEPT;
-use grammar::kinds::FIX;
-use grammar::kinds::NATS;
-use grammar::kinds::OR;
-use grammar::kinds::POOL;
-use grammar::kinds::SHIFT;
+use grammar::kinds;
+use grammar::kinds::Tagged;
+use grammar::kinds::Two;
 use grammar::kinds::cons;
 use grammar::kinds::dep;
 use grammar::kinds::or;
-use numbers::or::Part;
+use grammar::kinds::pool;
+use numbers::except;
 
 // One cell of the case.
 fn put(c: u64, out: &mut [u64]) -> usize
@@ -37,53 +31,36 @@ fn put(c: u64, out: &mut [u64]) -> usize
 }
 
 // A tag cell, then a part.
-fn tagged(
-    lent: &&[u64],
-    words: &&[u64],
-    tag: u64,
-    a: usize,
-    m: u64,
-    left: usize,
-    out: &mut [u64],
-) -> usize
-    requires { ⌜ Visits (now (now lent)) (now (now words)) a m ⌝ }
-    requires { ⌜ (m + left ≤ 2 ^ 62 + 200) × (left ≤ 200) × (length (now out) ≤ most) ⌝ }
+fn tagged(lent: &&[u64], words: &&[u64], s: Tagged, left: usize, out: &mut [u64]) -> usize
+    requires { ⌜ Visits (now (now lent)) (now (now words)) (s .part) (s .number) ⌝ }
+    requires { ⌜ (s .number + left ≤ 2 ^ 62 + 200) × (left ≤ 200) × (length (now out) ≤ most) ⌝ }
     ensures { λ r. ⌜ Laid (length (now (out .entry)))
-        (cell tag ∷ walk (ruleIn (now (now (lent .entry))) (now (now (words .entry)))) left 0 a m)
+        (cell (s .tag) ∷ walk (ruleIn (now (now (lent .entry))) (now (now (words .entry)))) left 0 (s .part) (s .number))
         (now (out .entry)) (now (out .exit)) (leftOf r) ⌝ }
 {
     if out.len() == 0 {
         return NO_ROOM;
     }
-    out[0] = tag;
-    lay(lent, words, a, m, 0, left, &mut out[1..])
+    out[0] = s.tag;
+    lay(lent, words, s.part, s.number, 0, left, &mut out[1..])
 }
 
 // Two parts at two numbers. "The second part's cells start right after the first part's": the middle of
 // the buffer that remains is lent on for them.
-fn both(
-    lent: &&[u64],
-    words: &&[u64],
-    a: usize,
-    x: u64,
-    b: usize,
-    y: u64,
-    left: usize,
-    out: &mut [u64],
-) -> usize
-    requires { ⌜ Visits (now (now lent)) (now (now words)) a x × Visits (now (now lent)) (now (now words)) b y ⌝ }
-    requires { ⌜ (x + left ≤ 2 ^ 62 + 200) × (y + left ≤ 2 ^ 62 + 200) × (left ≤ 200) × (length (now out) ≤ most) ⌝ }
+fn both(lent: &&[u64], words: &&[u64], s: Two, left: usize, out: &mut [u64]) -> usize
+    requires { ⌜ Visits (now (now lent)) (now (now words)) (s .first) (s .x) × Visits (now (now lent)) (now (now words)) (s .second) (s .y) ⌝ }
+    requires { ⌜ (s .x + left ≤ 2 ^ 62 + 200) × (s .y + left ≤ 2 ^ 62 + 200) × (left ≤ 200) × (length (now out) ≤ most) ⌝ }
     ensures { λ r. ⌜ Laid (length (now (out .entry)))
-        (walk (ruleIn (now (now (lent .entry))) (now (now (words .entry)))) left 0 a x
-        ++ walk (ruleIn (now (now (lent .entry))) (now (now (words .entry)))) left 0 b y)
+        (walk (ruleIn (now (now (lent .entry))) (now (now (words .entry)))) left 0 (s .first) (s .x)
+        ++ walk (ruleIn (now (now (lent .entry))) (now (now (words .entry)))) left 0 (s .second) (s .y))
         (now (out .entry)) (now (out .exit)) (leftOf r) ⌝ }
 {
-    let rest = lay(lent, words, a, x, 0, left, out);
+    let rest = lay(lent, words, s.first, s.x, 0, left, out);
     if TOO_DEEP <= rest {
         return rest;
     }
     let k = out.len() - rest;
-    lay(lent, words, b, y, 0, left, &mut out[k..])
+    lay(lent, words, s.second, s.y, 0, left, &mut out[k..])
 }
 
 // "visits the node's parts at one depth more": the walk calls itself on parts, and the depth left falls.
@@ -112,38 +89,28 @@ pub fn lay(
     let a = plan[4 * i + 1] as usize;
     let b = plan[4 * i + 2];
     match kind {
-        BELOW => put(n + up, out),
-        NATS => put(n + up, out),
-        POOL => {
-            let pool = *words;
-            put(pool[a + n as usize], out)
-        }
-        SHIFT => lay(lent, words, a, n, up + b, left - 1, out),
-        OR => match or::split(plan, a, b as usize, n) {
-            Part::First(m) => tagged(lent, words, 0, a, m, left - 1, out),
-            Part::Second(m) => tagged(lent, words, 1, b as usize, m, left - 1, out),
-        },
-        CONS => {
-            let q = cons::split(plan, a, b as usize, n);
-            both(lent, words, a, q.first, b as usize, q.second, left - 1, out)
-        }
-        DEP => {
-            let pool = *words;
-            let q = dep::parts(plan, pool, a, b as usize, n);
-            let c = pool[b as usize + q.first as usize] as usize;
-            both(lent, words, a, q.first, c, q.second, left - 1, out)
-        }
-        EXCEPT => lay(
+        kinds::BELOW => put(n + up, out),
+        kinds::NATS => put(n + up, out),
+        kinds::POOL => put(pool::step(*words, a, n), out),
+        kinds::SHIFT => lay(lent, words, a, n, up + b, left - 1, out),
+        kinds::OR => tagged(lent, words, or::step(plan, a, b as usize, n), left - 1, out),
+        kinds::CONS => both(
             lent,
             words,
-            a,
-            numbers::except::split(b, n),
-            0,
+            cons::step(plan, a, b as usize, n),
             left - 1,
             out,
         ),
-        FIX => lay(lent, words, a, n, 0, left - 1, out),
-        AGAIN => lay(lent, words, a, n, 0, left - 1, out),
+        kinds::DEP => both(
+            lent,
+            words,
+            dep::step(plan, *words, a, b as usize, n),
+            left - 1,
+            out,
+        ),
+        kinds::EXCEPT => lay(lent, words, a, except::split(b, n), 0, left - 1, out),
+        kinds::FIX => lay(lent, words, a, n, 0, left - 1, out),
+        kinds::AGAIN => lay(lent, words, a, n, 0, left - 1, out),
         // Not reached: a checked plan has no other kind.
         _ => NO_ROOM,
     }

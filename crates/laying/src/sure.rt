@@ -5,16 +5,7 @@ ghost use mathlib.Core.Bool.{true};
 ghost use Prim.Native.Nat.{_+_, _*_, _<_, min, max};
 ghost use lib.ListN.{length};
 ghost use Rattle.laying.specs.Sure.{Sure, Width, Widths, wide, widthAt};
-use grammar::kinds::AGAIN;
-use grammar::kinds::BELOW;
-use grammar::kinds::CONS;
-use grammar::kinds::DEP;
-use grammar::kinds::EXCEPT;
-use grammar::kinds::FIX;
-use grammar::kinds::NATS;
-use grammar::kinds::OR;
-use grammar::kinds::POOL;
-use grammar::kinds::SHIFT;
+use grammar::kinds;
 
 // Only the first nodes are looked at. A known width is made of widths that were known before it, so no
 // walk from such a node goes deeper than 32: that fits "Depth is at most 200" without a look.
@@ -57,16 +48,16 @@ fn width_of(plan: &[u64], k: usize, widths: &[usize; NODES]) -> usize
     let a = plan[4 * k + 1] as usize;
     let b = plan[4 * k + 2] as usize;
     match kind {
-        BELOW => 1,
-        NATS => 1,
-        POOL => 1,
-        SHIFT => part(widths, a),
-        OR => capped(1 + larger(part(widths, a), part(widths, b))),
-        CONS => capped(part(widths, a) + part(widths, b)),
-        DEP => WIDE,
-        EXCEPT => part(widths, a),
-        FIX => part(widths, a),
-        AGAIN => WIDE,
+        kinds::BELOW => 1,
+        kinds::NATS => 1,
+        kinds::POOL => 1,
+        kinds::SHIFT => part(widths, a),
+        kinds::OR => capped(1 + larger(part(widths, a), part(widths, b))),
+        kinds::CONS => capped(part(widths, a) + part(widths, b)),
+        kinds::DEP => WIDE,
+        kinds::EXCEPT => part(widths, a),
+        kinds::FIX => part(widths, a),
+        kinds::AGAIN => WIDE,
         _ => WIDE,
     }
 }
@@ -81,10 +72,10 @@ pub fn sure(plan: &[u64], i: usize, room: usize) -> bool
     }
     // A fix is nearly always one of a recursion, and that has no width.
     let kind = plan[4 * i];
-    if kind == FIX {
+    if kind == kinds::FIX {
         return false;
     }
-    if kind == AGAIN {
+    if kind == kinds::AGAIN {
         return false;
     }
     let mut widths = [WIDE; NODES];

@@ -16,16 +16,7 @@ use super::own::any;
 use super::own::counted;
 use super::own::listed;
 use super::own::word;
-use grammar::kinds::AGAIN;
-use grammar::kinds::BELOW;
-use grammar::kinds::CONS;
-use grammar::kinds::DEP;
-use grammar::kinds::EXCEPT;
-use grammar::kinds::FIX;
-use grammar::kinds::NATS;
-use grammar::kinds::OR;
-use grammar::kinds::POOL;
-use grammar::kinds::SHIFT;
+use grammar::kinds;
 use grammar::kinds::cons;
 use grammar::kinds::dep;
 use grammar::kinds::or;
@@ -176,16 +167,16 @@ pub fn take(
     let a = plan[4 * i + 1] as usize;
     let b = plan[4 * i + 2];
     match kind {
-        BELOW => counted(a as u64, row, off, at),
-        NATS => any(row, off, at),
-        POOL => listed(words, a, b as usize, row, off, at),
-        SHIFT => take(lent, words, row, a, left - 1, off + b, at),
-        OR => tagged(lent, words, row, a, b as usize, left - 1, off, at),
-        CONS => both(lent, words, row, a, b as usize, left - 1, off, at),
-        DEP => chosen(lent, words, row, a, b as usize, left - 1, off, at),
-        EXCEPT => without(lent, words, row, a, b, left - 1, off, at),
-        FIX => take(lent, words, row, a, left - 1, off, at),
-        AGAIN => take(lent, words, row, a, left - 1, off, at),
+        kinds::BELOW => counted(a as u64, row, off, at),
+        kinds::NATS => any(row, off, at),
+        kinds::POOL => listed(words, a, b as usize, row, off, at),
+        kinds::SHIFT => take(lent, words, row, a, left - 1, off + b, at),
+        kinds::OR => tagged(lent, words, row, a, b as usize, left - 1, off, at),
+        kinds::CONS => both(lent, words, row, a, b as usize, left - 1, off, at),
+        kinds::DEP => chosen(lent, words, row, a, b as usize, left - 1, off, at),
+        kinds::EXCEPT => without(lent, words, row, a, b, left - 1, off, at),
+        kinds::FIX => take(lent, words, row, a, left - 1, off, at),
+        kinds::AGAIN => take(lent, words, row, a, left - 1, off, at),
         // Not reached: a checked plan has no other kind.
         _ => UNFIT,
     }

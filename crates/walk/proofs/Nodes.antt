@@ -97,6 +97,7 @@ module _ {plan p : List ℕ} {i : ℕ} (r : Reading plan p i) where
     pub parts-some : Some (sizeIn plan (aWord plan i)) × Some (sizeIn plan (bWord plan i))
     parts-some = (r .walks .some (aWord plan i) (first-reads .node), r .walks .some (bWord plan i) (second-reads .node))
 
+    -- as `grammar::kinds::cons` asks for them
     pub words-some : (0 < getD plan (4 * aWord plan i + 3) 0) × (0 < getD plan (4 * bWord plan i + 3) 0)
     words-some = (some-word _ (parts-some .0), some-word _ (parts-some .1))
 

@@ -1,17 +1,18 @@
 // 5 cons | nodes | both lower (4); size (8) | product
 ghost use mathlib.Core.Path.{_≡_};
-ghost use mathlib.Core.List.{List};
+ghost use mathlib.Core.List.{List, [], _∷_};
 ghost use Prim.Native.Nat.{ℕ, _+_, _*_, _<_, _≤_};
 ghost use lib.ListN.{length, getD};
 ghost use Rattle.numbers.specs.Joined.{capped};
 ghost use Rattle.numbers.specs.Cons;
 ghost use Rattle.grammar.specs.Nodes.{nodeWith};
-ghost use Rattle.grammar.specs.kinds.Cons.{cons};
+ghost use Rattle.grammar.specs.Rule.{part};
+ghost use Rattle.grammar.specs.kinds.Cons.{cons, consRule};
 ghost use Rattle.grammar.specs.Plan.{sizeIn, weighed};
 use super::super::refusal::Refusal;
+use super::Two;
 use super::Weighed;
 use super::of_measured;
-use numbers::cons::Pair;
 use numbers::joined::Joined;
 use numbers::size;
 
@@ -29,13 +30,20 @@ pub fn check(plan: &[u64], n: usize, a: usize, b: usize) -> Weighed
     of_measured(m)
 }
 
-// The two parts' numbers, by the parts' sizes.
-pub fn split(plan: &[u64], a: usize, b: usize, n: u64) -> Pair
+// A visit at n: both parts, at the numbers that n is made of, by the parts' sizes.
+pub fn step(plan: &[u64], a: usize, b: usize, n: u64) -> Two
     requires { ⌜ (4 * a + 3 < length (now plan)) × (4 * b + 3 < length (now plan)) ⌝ }
     requires { ⌜ (0 < getD (now plan) (4 * a + 3) 0) × (0 < getD (now plan) (4 * b + 3) 0) ⌝ }
-    ensures { λ r. ⌜ r ≡ Cons.split (sizeIn (now (plan .entry)) a) (sizeIn (now (plan .entry)) b) n ⌝ }
+    ensures { λ r. ⌜ consRule (sizeIn (now (plan .entry)) a) (sizeIn (now (plan .entry)) b) a b .items n
+        ≡ part (r .first) (r .x) 0 ∷ part (r .second) (r .y) 0 ∷ [] ⌝ }
 {
-    numbers::cons::split(plan[4 * a + 3], plan[4 * b + 3], n)
+    let q = numbers::cons::split(plan[4 * a + 3], plan[4 * b + 3], n);
+    Two {
+        first: a,
+        x: q.first,
+        second: b,
+        y: q.second,
+    }
 }
 
 // The number of a cons's case: x and y are its parts' numbers.

@@ -1,9 +1,10 @@
 // 6 dep | node, place | a lower (4); its size m finite, at most 256 (7); b+m within the pool (5); each of those m words
 // a lower node (4); all finite or all endless (7); size (8) | sum of the seconds
 ghost use mathlib.Core.Path.{_≡_};
-ghost use mathlib.Core.List.{List, _∷_};
+ghost use mathlib.Core.List.{List, [], _∷_};
 ghost use Prim.Native.Nat.{ℕ, _+_, _*_, _^_, _<_, _≤_};
 ghost use lib.ListN.{length, getD, take, drop};
+ghost use Rattle.numbers.specs.Size.{Size};
 ghost use Rattle.numbers.specs.Joined.{capped};
 ghost use Rattle.numbers.specs.Dep.{inTurn};
 ghost use Rattle.numbers.specs.Dep;
@@ -13,10 +14,12 @@ ghost use Rattle.grammar.specs.Kind.{before};
 ghost use Rattle.grammar.specs.Nodes.{nodeWith};
 ghost use Rattle.grammar.specs.Plan.{sizeIn, coded, weighed};
 ghost use Rattle.grammar.specs.Named.{Names};
-ghost use Rattle.grammar.specs.kinds.Dep.{counts, secondsOf, secondsRow, dep};
+ghost use Rattle.grammar.specs.Rule.{part};
+ghost use Rattle.grammar.specs.kinds.Dep.{counts, secondsOf, secondsRow, dep, depRule};
 ghost use Rattle.grammar.specs.Seconds.{firsts, DepIn};
 use super::super::refusal::Refusal;
 use super::super::steps::Named;
+use super::Two;
 use super::Weighed;
 use numbers::cons::Pair;
 use numbers::joined::Joined;
@@ -108,7 +111,7 @@ fn in_turn(plan: &[u64], pool: &[u64], at: usize, count: usize, n: u64) -> Pair
 }
 
 // The two parts' numbers, by the seconds' sizes: "Seconds endless: first n mod m, second n div m."
-pub fn parts(plan: &[u64], pool: &[u64], a: usize, b: usize, n: u64) -> Pair
+fn parts(plan: &[u64], pool: &[u64], a: usize, b: usize, n: u64) -> Pair
     requires { ⌜ DepIn (now plan) (now pool) a b ⌝ }
     ensures { λ r. ⌜ r ≡ Dep.split (secondsOf (sizeIn (now (plan .entry))) (take (firsts (now (plan .entry)) a) (drop b (now (pool .entry))))) n ⌝ }
 {
@@ -118,6 +121,24 @@ pub fn parts(plan: &[u64], pool: &[u64], a: usize, b: usize, n: u64) -> Pair
         return in_turn(plan, pool, b, m as usize, n);
     }
     numbers::dep::split_endless(m, n)
+}
+
+// A visit at n: the first part, and the second that its number chooses.
+pub fn step(plan: &[u64], pool: &[u64], a: usize, b: usize, n: u64) -> Two
+    requires { ⌜ DepIn (now plan) (now pool) a b × (length (now pool) ≤ 4096) ⌝ }
+    requires { ⌜ Dep.split (secondsOf (sizeIn (now plan)) (take (firsts (now plan) a) (drop b (now pool)))) n .first < firsts (now plan) a ⌝ }
+    ensures { λ r. ⌜ ((s : Size) → depRule s (secondsOf (sizeIn (now (plan .entry))) (take (firsts (now (plan .entry)) a) (drop b (now (pool .entry)))))
+        a (take (firsts (now (plan .entry)) a) (drop b (now (pool .entry)))) .items n
+        ≡ part (r .first) (r .x) 0 ∷ part (r .second) (r .y) 0 ∷ []) ⌝ }
+{
+    let q = parts(plan, pool, a, b, n);
+    let x = q.first;
+    Two {
+        first: a,
+        x,
+        second: pool[b + x as usize] as usize,
+        y: q.second,
+    }
 }
 
 // The sum of the sizes of a dep's seconds before the one at x.

@@ -7,13 +7,15 @@ ghost use Rattle.numbers.specs.Pick.{pick};
 ghost use Rattle.numbers.specs.Joined.{capped};
 ghost use Rattle.numbers.specs.Or;
 ghost use Rattle.grammar.specs.Nodes.{nodeWith};
-ghost use Rattle.grammar.specs.kinds.Or.{or};
+ghost use Rattle.grammar.specs.Rule.{own, part};
+ghost use Rattle.grammar.specs.kinds.Or.{or, orRule};
 ghost use Rattle.grammar.specs.Plan.{sizeIn, weighed};
 ghost use Rattle.grammar.specs.Named.{Names};
 use super::super::refusal::Refusal;
 use super::super::steps::Named;
 use super::super::steps::one;
 use super::super::steps::two;
+use super::Tagged;
 use super::Weighed;
 use super::of_measured;
 use numbers::joined::Joined;
@@ -44,12 +46,24 @@ pub fn steps(a: usize, b: usize, guarded: bool) -> Named
     one(a)
 }
 
-// The part that number n is of, and its number there, by the parts' sizes.
-pub fn split(plan: &[u64], a: usize, b: usize, n: u64) -> Part
+// A visit at n: the tag and the part that n is of, and its number there, by the parts' sizes.
+pub fn step(plan: &[u64], a: usize, b: usize, n: u64) -> Tagged
     requires { ⌜ (4 * a + 3 < length (now plan)) × (4 * b + 3 < length (now plan)) ⌝ }
-    ensures { λ r. ⌜ r ≡ Or.split (sizeIn (now (plan .entry)) a) (sizeIn (now (plan .entry)) b) n ⌝ }
+    ensures { λ r. ⌜ orRule (sizeIn (now (plan .entry)) a) (sizeIn (now (plan .entry)) b) a b .items n
+        ≡ own (r .tag) ∷ part (r .part) (r .number) 0 ∷ [] ⌝ }
 {
-    numbers::or::split(plan[4 * a + 3], plan[4 * b + 3], n)
+    match numbers::or::split(plan[4 * a + 3], plan[4 * b + 3], n) {
+        Part::First(m) => Tagged {
+            tag: 0,
+            part: a,
+            number: m,
+        },
+        Part::Second(m) => Tagged {
+            tag: 1,
+            part: b,
+            number: m,
+        },
+    }
 }
 
 // The number of an or's case: m is the number of the part with this tag; c is the other part.

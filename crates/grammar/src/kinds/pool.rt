@@ -1,8 +1,8 @@
 // 2 pool | place, count | 1 <= b <= 4,096 and a+b within the pool (5); words all different (6) | b
 ghost use mathlib.Core.Path.{_≡_};
 ghost use mathlib.Core.List.{List};
-ghost use Prim.Native.Nat.{ℕ, _+_, _≤_};
-ghost use lib.ListN.{length, take, drop};
+ghost use Prim.Native.Nat.{ℕ, _+_, _<_, _≤_};
+ghost use lib.ListN.{length, getD, take, drop};
 ghost use Rattle.numbers.specs.Size.{Size};
 ghost use Rattle.grammar.specs.Nodes.{nodeWith};
 ghost use Rattle.grammar.specs.kinds.Pool.{pool as poolKind};
@@ -35,6 +35,14 @@ pub fn check(pool: &[u64], a: usize, b: usize) -> Weighed
         return Weighed::Of(b as u64);
     }
     Weighed::Fault(Refusal::Repeat)
+}
+
+// A visit at n: "the word at place+n"
+pub fn step(pool: &[u64], a: usize, n: u64) -> u64
+    requires { ⌜ (a + n < length (now pool)) × (length (now pool) ≤ 4096) ⌝ }
+    ensures { λ r. ⌜ r ≡ getD (now (pool .entry)) (a + n) 0 ⌝ }
+{
+    pool[a + n as usize]
 }
 
 // Where c is among `count` words of the pool, from `at` on.

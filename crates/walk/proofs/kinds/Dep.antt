@@ -2,11 +2,11 @@
 --   choosing    what is known of its first part and of its seconds
 --   dep-by      a dep's rule, by its seconds; dep-rule the rule of such a node
 --   first-of, second-of, second-place, dep-least   of the second that number x of the first part chooses
---   dep-items, dep-place   its items, and the place of the second's word
+--   dep-items, dep-low   its items, and that the first part's number is below its size
 -- Assumes nothing.
 use mathlib.Core.Path.{_≡_, refl, sym, ap, _∙_}
 use mathlib.Core.Bool.{true, not, _||_, false≢true}
-use mathlib.Core.List.{List, [], _∷_}
+use mathlib.Core.List.{List}
 use Prim.Native.Nat.{ℕ, _+_, _^_, _≤_, _<_}
 use native.Mathlib.Nat.{add-zero}
 use native.Mathlib.Omega.{arith}
@@ -15,15 +15,14 @@ use lib.ListN.{length, getD, take, drop}
 use borrow.Author.Tests.{leb-true}
 use Rattle.numbers.specs.Size.{Size, finite, endless, Below, sizeOf}
 use Rattle.numbers.specs.Dep
-use Rattle.numbers.specs.declared.cons.Pair.{Pair}
 use Rattle.numbers.proofs.size.Laws.{by-size}
 use Rattle.numbers.proofs.dep.Laws as Deps
-use Rattle.grammar.specs.Rule.{part}
+use Rattle.grammar.specs.Rule.{Item}
 use Rattle.grammar.specs.Checks.{few, fits, isEndless, allFinite, allEndless, allLower, total}
 use Rattle.grammar.specs.Checks.{count as countOf}
 use Rattle.grammar.specs.Plan.{sizeIn, kindWord, aWord, bWord, ruleIn}
 use Rattle.grammar.specs.Seconds.{firsts, headSize, DepIn}
-use Rattle.grammar.specs.kinds.Dep.{chosen, secondsOf, depRule}
+use Rattle.grammar.specs.kinds.Dep.{secondsOf, depRule}
 use Rattle.grammar.specs.kinds.Dep.{dep as depKind}
 use Rattle.grammar.proofs.Tests.{finite-word, endless-word}
 use Rattle.grammar.proofs.Stepping.{few-word}
@@ -158,17 +157,14 @@ pub dep-rule : {plan p : List ℕ} {i : ℕ} → Reading plan p i → kindWord p
 dep-rule r k = seconds-rule r k ∙ sym (dep-by (choosing r k))
 
 -- ---- a visit
-module _ {plan p : List ℕ} {i n : ℕ} (v : Visits plan p i n) (k : kindWord plan i ≡ 6) {q : Pair}
-    (e : q ≡ Dep.split (secondsOf (sizeIn plan) (take (firsts plan (aWord plan i)) (drop (bWord plan i) p))) n) where
-  dep-chosen : ruleIn plan p i .items n ≡ chosen (aWord plan i) (take (firsts plan (aWord plan i)) (drop (bWord plan i) p)) q
+module _ {plan p : List ℕ} {i n : ℕ} (v : Visits plan p i n) (k : kindWord plan i ≡ 6) where
+  abbrev chosen : List ℕ
+  chosen = take (firsts plan (aWord plan i)) (drop (bWord plan i) p)
+
+  pub dep-items : {is : List Item} → depRule (total (sizeIn plan) chosen) (secondsOf (sizeIn plan) chosen) (aWord plan i) chosen .items n ≡ is → ruleIn plan p i .items n ≡ is
+  dep-items e = items-of (seconds-rule (visited v) k) ∙ e
+
+  -- the first part's number is below its size
+  pub dep-low : Dep.split (secondsOf (sizeIn plan) chosen) n .first < firsts plan (aWord plan i)
   unfolding depRule
-  dep-chosen = items-of (seconds-rule (visited v) k) ∙ ap (chosen (aWord plan i) (take (firsts plan (aWord plan i)) (drop (bWord plan i) p))) (sym e)
-
-  in-first : q .first < firsts plan (aWord plan i)
-  in-first = first-of (choosing (visited v) k) (q .first) (next-by v dep-chosen .0 .visits .below)
-
-  pub dep-place : (bWord plan i + q .first < length p) × (length p ≤ 4096)
-  dep-place = second-place (choosing (visited v) k) (q .first) in-first
-
-  pub dep-items : ruleIn plan p i .items n ≡ part (aWord plan i) (q .first) 0 ∷ part (getD p (bWord plan i + q .first) 0) (q .second) 0 ∷ []
-  dep-items = dep-chosen ∙ rw (second-of (choosing (visited v) k) (q .first) in-first)
+  dep-low = first-of (choosing (visited v) k) (Dep.split (secondsOf (sizeIn plan) chosen) n .first) (next-by v (dep-items refl) .0 .visits .below)

@@ -37,6 +37,6 @@ module _ {plan p : List ℕ} {i n : ℕ} (v : Visits plan p i n) (k : kindWord p
   pub pool-place : (aWord plan i + n < length p) × (length p ≤ 4096)
   pool-place = let q = pool-in (visited v) k in (omega (arith, in-run, q .1), q .2)
 
-  pub pool-items : ruleIn plan p i .items n ≡ own (getD p (aWord plan i + n) 0) ∷ []
+  pub pool-items : {c : ℕ} → c ≡ getD p (aWord plan i + n) 0 → ruleIn plan p i .items n ≡ own c ∷ []
   unfolding poolRule
-  pool-items = items-of (pool-rule plan p i k) ∙ rw (run-at p (aWord plan i) (bWord plan i) (pool-in (visited v) k .1) n in-run)
+  pool-items e = items-of (pool-rule plan p i k) ∙ rw (e, run-at p (aWord plan i) (bWord plan i) (pool-in (visited v) k .1) n in-run)

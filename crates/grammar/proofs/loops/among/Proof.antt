@@ -2,15 +2,15 @@
 -- Assumes nothing.
 use Prim.Native.Nat.{_-_}
 use native.Mathlib.Omega.{arith}
-use Rattle.grammar.proofs.Repeats.{Among, among-all, among-hit, among-more, among-none}
+use Rattle.grammar.proofs.Repeats.{Among, among-all, among-turn, among-end}
 use Rattle.grammar.proofs.loops.among.Statement.{statement}
 use Rattle.grammar.proofs.loops.among.Tie as tie
 
 abbrev Inv-loop : tie.InvT-loop
-Inv-loop pool from to x i₀ i = Among pool from to x i
+Inv-loop pool from to x seen₀ i₀ seen i = Among pool from to x seen i
 
 abbrev μ-loop : tie.MeasureT-loop
-μ-loop pool from to x i₀ i = to - i
+μ-loop pool from to x seen₀ i₀ seen i = to - i
 
 pub among-spec : {M : Type 1} → statement M
 among-spec =
@@ -21,8 +21,9 @@ among-spec =
     (λ c. search among-all)
     (λ c. omega arith)
     (λ c. omega arith)
-    (λ c. search among-hit)
     (λ c. omega arith)
     (λ c. omega arith)
-    (λ c. search among-more)
-    (λ c. search among-none))
+    (λ c.
+    let h = c .before .before .before in
+    among-turn (h .before .pre .1) (h .loop .inv) (c .before .before .loop-test .taken) (λ q. q .taken) (λ q. q .left) (c .if1 .came))
+    (λ c. search among-end))

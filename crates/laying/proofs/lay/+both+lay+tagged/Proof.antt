@@ -1,24 +1,23 @@
 -- `laying::lay::lay` is the writing walk over a buffer that is its own room; `tagged` a tag and a part, `both` two parts.
 -- The measure is twice the depth left, and one more for those two. Each arm is one law of its shape, at its kind's items.
 -- Assumes nothing.
-use mathlib.Core.Path.{refl}
+use mathlib.Core.Path.{refl, _∙_}
 use Prim.Native.Nat.{ℕ, _+_, _*_, _<_}
 use native.Mathlib.Omega.{arith}
-use borrow.Author.Needs.{needs}
 use borrow.Fn.Kinds.{In}
 use borrow.Fn.PlainCycle.{Measures, is, falls, and}
 use lib.ListN.{length-set}
 use Rattle.walk.proofs.Rooms.{tallied-deep, left-within}
 use Rattle.laying.proofs.Lays.{lent-most, lent-set, laid-deep, laid-none, laid-stops, laid-two, laid-tag}
 use Rattle.walk.proofs.Visit.{walk-deep, walk-cell, walk-word, walk-pass, walk-same, walk-tag, walk-two, visited, next-by}
-use Rattle.walk.proofs.Nodes.{in-plan, known, parts-in, words-some, raised-none, raised-zero}
+use Rattle.walk.proofs.Nodes.{items-of, in-plan, known, parts-in, words-some, raised-none, raised-zero}
 use Rattle.walk.proofs.kinds.Below.{below-items}
 use Rattle.walk.proofs.kinds.Nats.{nats-items}
 use Rattle.walk.proofs.kinds.Pool.{pool-items, pool-place}
 use Rattle.walk.proofs.kinds.Shift.{shift-small, shift-raised, shift-items}
-use Rattle.walk.proofs.kinds.Or.{or-lower, or-first, or-second}
-use Rattle.walk.proofs.kinds.Cons.{cons-lower, cons-items}
-use Rattle.walk.proofs.kinds.Dep.{choosing, dep-items, dep-place}
+use Rattle.walk.proofs.kinds.Or.{or-lower, or-rule}
+use Rattle.walk.proofs.kinds.Cons.{cons-lower, cons-rule}
+use Rattle.walk.proofs.kinds.Dep.{choosing, dep-items, dep-low}
 use Rattle.walk.proofs.kinds.Except.{except-items}
 use Rattle.walk.proofs.kinds.Fix.{fix-items}
 use Rattle.walk.proofs.kinds.Again.{again-items}
@@ -32,22 +31,23 @@ use Rattle.laying.proofs.lay.+both+lay+tagged.Lts-lay as lay-lts
 use Rattle.laying.proofs.lay.tagged.Reads as tagged
 use Rattle.laying.proofs.lay.tagged.Kinds as tagged-kinds
 use Rattle.laying.proofs.lay.+both+lay+tagged.Lts-tagged as tagged-lts
-use Rattle.grammar.proofs.kinds.cons.split.Reads as cons-split-reads
-use Rattle.grammar.proofs.kinds.dep.parts.Reads as parts-reads
-use Rattle.grammar.proofs.kinds.or.split.Reads as or-split-reads
-use Rattle.numbers.proofs.except.split.Reads as except-split-reads
-use Rattle.laying.proofs.lay.put.Reads as put-reads
+use Rattle.grammar.proofs.kinds.cons.step.Reads as cons-step
+use Rattle.grammar.proofs.kinds.dep.step.Reads as dep-step
+use Rattle.grammar.proofs.kinds.or.step.Reads as or-step
+use Rattle.grammar.proofs.kinds.pool.step.Reads as pool-step
+use Rattle.numbers.proofs.except.split.Reads as except-split
+use Rattle.laying.proofs.lay.put.Reads as put
 use Rattle.laying.proofs.lay.+both+lay+tagged.{statement}
 use Rattle.laying.proofs.lay.+both+lay+tagged.Tie.{close}
 
 abbrev μ-both : Measures 5 both-kinds.ps ℕ
-μ-both κs a = 2 * a .1 .1 .1 .1 .1 .1 .0 + 1
+μ-both κs a = 2 * a .1 .1 .1 .0 + 1
 
 abbrev μ-lay : Measures 5 lay-kinds.ps ℕ
 μ-lay κs a = 2 * a .1 .1 .1 .1 .1 .0
 
 abbrev μ-tagged : Measures 5 tagged-kinds.ps ℕ
-μ-tagged κs a = 2 * a .1 .1 .1 .1 .1 .0 + 1
+μ-tagged κs a = 2 * a .1 .1 .1 .0 + 1
 
 module _ (t : ℕ) where
   abbrev both-at : In 5 both-kinds.ps
@@ -70,22 +70,24 @@ module _ (t : ℕ) where
 
   abbrev calls : lay-lts.Claims
   calls = (
-    put-reads.Asked,
-    put-reads.Learnt,
+    put.Asked,
+    put.Learnt,
+    pool-step.Asked,
+    pool-step.Learnt,
     lay-below,
     lay.Post,
-    or-split-reads.Asked,
-    or-split-reads.Learnt,
+    or-step.Asked,
+    or-step.Learnt,
     tagged-below,
     tagged.Post,
-    cons-split-reads.Asked,
-    cons-split-reads.Learnt,
+    cons-step.Asked,
+    cons-step.Learnt,
     both-below,
     both.Post,
-    parts-reads.Asked,
-    parts-reads.Learnt,
-    except-split-reads.Asked,
-    except-split-reads.Learnt,
+    dep-step.Asked,
+    dep-step.Learnt,
+    except-split.Asked,
+    except-split.Learnt,
   )
 
   -- the first part's walk, and then the second's over what is left; and a tag, and then a part's
@@ -102,204 +104,88 @@ module _ (t : ℕ) where
 pub +both+lay+tagged-spec : {M : Type 1} → statement M
 +both+lay+tagged-spec = close μ-both μ-lay μ-tagged
     (λ t. both-lts.spec (lay-below t, lay.Post) (both-at t) both.Post
-    (λ c κs. let at-pre = c .before .before in let p = at-pre .pre in (
-      omega (arith, p .0),
-      ((p .1 .0 .0, raised-zero _ _), (p .1 .1 .0, omega (arith, p .1 .1 .2), p .1 .1 .2, p .1 .1 .3)),
-    ))
-    (λ c. c .before .before .before .lay .ensures .long)
-    (λ c. laid-stops _ (c .before .before .before .lay .ensures) (c .if1 .taken))
-    (λ c. let at-lay = c .before .before .before in let at-pre = at-lay .before .before .before in omega (
-      arith,
-      left-within _
-          (at-lay .lay .ensures .is) (c .if1 .left),
-      at-lay .lay .ensures .long,
-      at-pre .pre .1 .1 .3,
-    ))
-    (λ c. let at-lay = c .before .before .before in let at-pre = at-lay .before .before .before in omega (
-      arith,
-      left-within _
-          (at-lay .lay .ensures .is) (c .if1 .left),
-      at-lay .lay .ensures .long,
-      at-pre .pre .1 .1 .3,
-    ))
-    (λ c. let at-lay = c .before .before .before in let at-pre = at-lay .before .before .before in omega (
-      arith,
-      left-within _
-          (at-lay .lay .ensures .is) (c .if1 .left),
-      at-lay .lay .ensures .long,
-      at-pre .pre .1 .1 .3,
-    ))
-    (λ c. let at-lay = c .before .before .before in let at-pre = at-lay .before .before .before in omega (
-      arith,
-      left-within _
-          (at-lay .lay .ensures .is) (c .if1 .left),
-      at-lay .lay .ensures .long,
-      at-pre .pre .1 .1 .3,
-    ))
-    (λ c. let at-lay = c .before .before .before in let at-pre = at-lay .before .before .before in omega (
-      arith,
-      left-within _
-          (at-lay .lay .ensures .is) (c .if1 .left),
-      at-lay .lay .ensures .long,
-      at-pre .pre .1 .1 .3,
-    ))
-    (λ c κs. let at-lay = c .before .before .before .before in let at-pre = at-lay .before .before .before in let p = at-pre .pre in (
-      omega
-          (arith, p .0),
-      (
-        (p .1 .0 .1, raised-zero _ _),
-        (p .1 .1 .1, omega (arith, p .1 .1 .2), p .1 .1 .2, lent-most _ (at-lay .lay .ensures) (p .1 .1 .3)),
-      ),
-    ))
+    (λ c κs. let at-pre = c .before .before in let p = at-pre .pre in (omega (arith, p .0), ((p .1 .0 .0, raised-zero _ _), (p .1 .1 .0, omega (arith, p .1 .1 .2), p .1 .1 .2, p .1 .1 .3))))
+    (λ c. let at-lay = c .before .before .before in at-lay .lay .ensures .long)
+    (λ c. let at-lay = c .before .before .before in laid-stops _ (at-lay .lay .ensures) (c .if1 .taken))
+    (λ c. let at-lay = c .before .before .before in let at-pre = at-lay .before .before .before in omega (arith, left-within _ (at-lay .lay .ensures .is) (c .if1 .left), at-lay .lay .ensures .long, at-pre .pre .1 .1 .3))
+    (λ c. let at-lay = c .before .before .before in let at-pre = at-lay .before .before .before in omega (arith, left-within _ (at-lay .lay .ensures .is) (c .if1 .left), at-lay .lay .ensures .long, at-pre .pre .1 .1 .3))
+    (λ c. let at-lay = c .before .before .before in let at-pre = at-lay .before .before .before in omega (arith, left-within _ (at-lay .lay .ensures .is) (c .if1 .left), at-lay .lay .ensures .long, at-pre .pre .1 .1 .3))
+    (λ c. let at-lay = c .before .before .before in let at-pre = at-lay .before .before .before in omega (arith, left-within _ (at-lay .lay .ensures .is) (c .if1 .left), at-lay .lay .ensures .long, at-pre .pre .1 .1 .3))
+    (λ c. let at-lay = c .before .before .before in let at-pre = at-lay .before .before .before in omega (arith, left-within _ (at-lay .lay .ensures .is) (c .if1 .left), at-lay .lay .ensures .long, at-pre .pre .1 .1 .3))
+    (λ c κs. let at-lay = c .before .before .before .before in let at-pre = at-lay .before .before .before in let p = at-pre .pre in
+    (omega (arith, p .0), ((p .1 .0 .1, raised-zero _ _), (p .1 .1 .1, omega (arith, p .1 .1 .2), p .1 .1 .2, lent-most _ (at-lay .lay .ensures) (p .1 .1 .3)))))
     (λ c. both-two t c .long)
     (λ c. both-two t c))
     (λ t. lay-lts.spec (calls t) (lay-at t) lay.Post
     (λ c. laid-by (walk-deep _ _ _ _ (c .if1 .taken)) (laid-deep refl (tallied-deep _)))
-    (λ c. let q = in-plan (visited (c .before .before .before .pre .1 .0 .0)) in omega (arith, q .0, q .1))
-    (λ c. let q = in-plan (visited (c .before .before .before .pre .1 .0 .0)) in omega (arith, q .0, q .1))
-    (λ c. let q = in-plan (visited (c .before .before .before .before .pre .1 .0 .0)) in omega (arith, q .0, q .1))
-    (λ c. let q = in-plan (visited (c .before .before .before .before .pre .1 .0 .0)) in omega (arith, q .0, q .1))
-    (λ c. let q = in-plan (visited (c .before .before .before .before .pre .1 .0 .0)) in omega (arith, q .0, q .1))
-    (λ c. let q = in-plan (visited (c .before .before .before .before .pre .1 .0 .0)) in omega (arith, q .0, q .1))
-    (λ c. let q = in-plan (visited (c .before .before .before .before .before .pre .1 .0 .0)) in omega (arith, q .0, q .1))
-    (λ c. let q = in-plan (visited (c .before .before .before .before .before .pre .1 .0 .0)) in omega (arith, q .0, q .1))
-    (λ c. let q = in-plan (visited (c .before .before .before .before .before .pre .1 .0 .0)) in omega (arith, q .0, q .1))
-    (λ c. let q = in-plan (visited (c .before .before .before .before .before .pre .1 .0 .0)) in omega (arith, q .0, q .1))
-    (λ c. let q = in-plan (visited (c .before .before .before .before .before .before .pre .1 .0 .0)) in omega (arith, q .0, q .1))
-    (λ c. let h = c .before .before .before .before .before .before .before .pre .1 .1 in omega (arith, h .0, h .1))
-    (λ c κs. c .before .before .before .before .before .before .before .before .pre .1 .1 .3)
-    (λ c. let h = c .before .before .before .before .before .before .before .pre .1 .1 in omega (arith, h .0, h .1))
-    (λ c κs. c .before .before .before .before .before .before .before .before .pre .1 .1 .3)
-    (λ c. let at-match = c .before in let at-pre = at-match .before .before .before .before .before .before .before in
-    let q = pool-place (at-pre .pre .1 .0 .0) (at-match .match .keys3) in omega (arith, q .0, q .1))
-    (λ c. let at-match = c .before in let at-pre = at-match .before .before .before .before .before .before .before in
-    let q = pool-place (at-pre .pre .1 .0 .0) (at-match .match .keys3) in omega (arith, q .0, q .1))
-    (λ c. let at-match = c .before .before in let at-pre = at-match .before .before .before .before .before .before .before in
-    let q = pool-place (at-pre .pre .1 .0 .0) (at-match .match .keys3) in omega (arith, q .0, q .1))
-    (λ c κs. c .before .before .before .before .before .before .before .before .before .before .pre .1 .1 .3)
-    (λ c. let at-pre = c .before .before .before .before .before .before .before in let h = at-pre .pre .1 .1 in omega
-    (arith, h .1, shift-small (visited (at-pre .pre .1 .0 .0)) (c .match .keys4)))
-    (λ c. omega (arith, c .before .before .before .before .before .if1 .left))
-    (λ c κs. let at-match = c .before in let k = at-match .match .keys4 in let at-if1 = at-match .before .before .before .before .before in
-    let at-pre = at-if1 .before .before in let v = at-pre .pre .1 .0 .0 in lay-shift _ (at-pre .pre .0) (at-if1 .if1 .left)
-    (at-pre .pre .1 .1) (next-by v (shift-items v k) .0) (shift-raised (visited v) k _) (shift-small (visited v) k))
-    (λ c κs. let at-pre = c .before .before .before .before .before .before .before in let v = at-pre .pre .1 .0 .0 in parts-in (visited v)
-    (or-lower (visited v) (c .match .keys5)))
-    (λ c. search needs)
-    (λ c. omega (arith, c .before .before .before .before .before .before .before .before .before .if1 .left))
-    (λ c κs. let at-m = c .before .before in let at-split = at-m .before .before in let at-match = at-split .before in
-    let at-if1 = at-match .before .before .before .before .before in let at-pre = at-if1 .before .before in let v = at-pre .pre .1 .0 .0 in
-    lay-tagged _ (at-pre .pre .0) (at-if1 .if1 .left) (at-pre .pre .1 .1)
-    (next-by v (or-first v (at-match .match .keys5) (at-split .split .ensures) (at-m .m .given .1)) .0))
-    (λ c. search needs)
-    (λ c. omega (arith, c .before .before .before .before .before .before .before .before .before .if1 .left))
-    (λ c κs. let at-m2 = c .before .before in let at-split = at-m2 .before .before in let at-match = at-split .before in
-    let at-if1 = at-match .before .before .before .before .before in let at-pre = at-if1 .before .before in let v = at-pre .pre .1 .0 .0 in
-    lay-tagged _ (at-pre .pre .0) (at-if1 .if1 .left) (at-pre .pre .1 .1)
-    (next-by v (or-second v (at-match .match .keys5) (at-split .split .ensures) (at-m2 .m2 .given .1)) .0))
-    (λ c κs. let at-pre = c .before .before .before .before .before .before .before in let v = at-pre .pre .1 .0 .0 in
-    let l = cons-lower (visited v) (c .match .keys6) in (parts-in (visited v) l, words-some (visited v) l))
-    (λ c. omega (arith, c .before .before .before .before .before .before .if1 .left))
-    (λ c κs. let at-split2 = c .before in let at-match = at-split2 .before in
-    let at-if1 = at-match .before .before .before .before .before in let at-pre = at-if1 .before .before in let v = at-pre .pre .1 .0 .0 in
-    let n = next-by v (cons-items v (at-match .match .keys6) (at-split2 .split2 .ensures)) in lay-both _ (at-pre .pre .0)
-    (at-if1 .if1 .left) (at-pre .pre .1 .1) (n .0) (n .1 .0))
-    (λ c κs. choosing (visited (c .before .before .before .before .before .before .before .before .pre .1 .0 .0)) (c .before .match .keys7) .words)
-    (λ c. let at-match = c .before .before in let at-pre = at-match .before .before .before .before .before .before .before in
-    let q = dep-place (at-pre .pre .1 .0 .0) (at-match .match .keys7) (c .parts .ensures) in omega (arith, q .0, q .1))
-    (λ c. let at-match = c .before .before in let at-pre = at-match .before .before .before .before .before .before .before in
-    let q = dep-place (at-pre .pre .1 .0 .0) (at-match .match .keys7) (c .parts .ensures) in omega (arith, q .0, q .1))
-    (λ c. let at-parts = c .before in let at-match = at-parts .before .before in
-    let at-pre = at-match .before .before .before .before .before .before .before in
-    let q = dep-place (at-pre .pre .1 .0 .0) (at-match .match .keys7) (at-parts .parts .ensures) in omega (arith, q .0, q .1))
-    (λ c. omega (arith, c .before .before .before .before .before .before .before .before .if1 .left))
-    (λ c κs. let at-parts = c .before .before in let at-match = at-parts .before .before in
-    let at-if1 = at-match .before .before .before .before .before in let at-pre = at-if1 .before .before in let v = at-pre .pre .1 .0 .0 in
-    let n = next-by v (dep-items v (at-match .match .keys7) (at-parts .parts .ensures)) in lay-both _ (at-pre .pre .0) (at-if1 .if1 .left)
-    (at-pre .pre .1 .1) (n .0) (n .1 .0))
-    (λ c κs. omega (arith, c .before .before .before .before .before .before .before .pre .1 .1 .0))
-    (λ c. omega (arith, c .before .before .before .before .before .before .if1 .left))
-    (λ c κs. let at-split3 = c .before in let at-match = at-split3 .before in let at-if1 = at-match .before .before .before .before .before in
-    let at-pre = at-if1 .before .before in let v = at-pre .pre .1 .0 .0 in lay-part _ (at-pre .pre .0) (at-if1 .if1 .left) (at-pre .pre .1 .1)
-    (next-by v (except-items v (at-match .match .keys8) (at-split3 .split3 .ensures)) .0))
-    (λ c. omega (arith, c .before .before .before .before .before .if1 .left))
-    (λ c κs. let at-match = c .before in let at-if1 = at-match .before .before .before .before .before in
-    let at-pre = at-if1 .before .before in let v = at-pre .pre .1 .0 .0 in lay-part _ (at-pre .pre .0) (at-if1 .if1 .left) (at-pre .pre .1 .1)
-    (next-by v (fix-items v (at-match .match .keys9)) .0))
-    (λ c. omega (arith, c .before .before .before .before .before .if1 .left))
-    (λ c κs. let at-match = c .before in let at-if1 = at-match .before .before .before .before .before in
-    let at-pre = at-if1 .before .before in let v = at-pre .pre .1 .0 .0 in lay-part _ (at-pre .pre .0) (at-if1 .if1 .left) (at-pre .pre .1 .1)
-    (next-by v (again-items v (at-match .match .keys10)) .0))
-    (λ c. c .before .before .put .ensures .long)
-    (λ c. let at-put = c .before .before in let at-match = at-put .before .before in
-    let at-if1 = at-match .before .before .before .before .before in let at-pre = at-if1 .before .before in laid-by
-    (walk-cell _ _ _ _ (at-if1 .if1 .left) (below-items (at-pre .pre .1 .0 .0) (at-match .match .keys1)) refl) (at-put .put .ensures))
-    (λ c. c .before .before .put2 .ensures .long)
-    (λ c. let at-put2 = c .before .before in let at-match = at-put2 .before .before in
-    let at-if1 = at-match .before .before .before .before .before in let at-pre = at-if1 .before .before in laid-by
-    (walk-cell _ _ _ _ (at-if1 .if1 .left) (nats-items (at-pre .pre .1 .0 .0) (at-match .match .keys2)) refl) (at-put2 .put2 .ensures))
-    (λ c. c .before .before .put3 .ensures .long)
-    (λ c. let at-put3 = c .before .before in let at-match = at-put3 .before .before .before .before in let k = at-match .match .keys3 in
-    let at-if1 = at-match .before .before .before .before .before in let at-pre = at-if1 .before .before in laid-by (walk-word _ _ _ _
-    (at-if1 .if1 .left) (pool-items (at-pre .pre .1 .0 .0) k) (raised-none (at-pre .pre .1 .0 .1) k refl)) (at-put3 .put3 .ensures))
-    (λ c. c .before .before .lay .ensures .long)
-    (λ c. let at-lay = c .before .before in let at-match = at-lay .before .before in
-    let at-if1 = at-match .before .before .before .before .before in let at-pre = at-if1 .before .before in laid-by
-    (walk-pass _ _ _ _ (at-if1 .if1 .left) (shift-items (at-pre .pre .1 .0 .0) (at-match .match .keys4)) refl) (at-lay .lay .ensures))
-    (λ c. c .before .before .tagged .ensures .long)
-    (λ c. let at-tagged = c .before .before in let at-m = at-tagged .before .before .before in let at-split = at-m .before .before in
-    let at-match = at-split .before in let k = at-match .match .keys5 in let at-if1 = at-match .before .before .before .before .before in
-    let at-pre = at-if1 .before .before in laid-by (walk-tag _ _ _ _ (at-if1 .if1 .left)
-    (or-first (at-pre .pre .1 .0 .0) k (at-split .split .ensures) (at-m .m .given .1)) (raised-none (at-pre .pre .1 .0 .1) k refl))
-    (at-tagged .tagged .ensures))
-    (λ c. c .before .before .tagged2 .ensures .long)
-    (λ c. let at-tagged2 = c .before .before in let at-m2 = at-tagged2 .before .before .before in let at-split = at-m2 .before .before in
-    let at-match = at-split .before in let k = at-match .match .keys5 in let at-if1 = at-match .before .before .before .before .before in
-    let at-pre = at-if1 .before .before in laid-by (walk-tag _ _ _ _ (at-if1 .if1 .left)
-    (or-second (at-pre .pre .1 .0 .0) k (at-split .split .ensures) (at-m2 .m2 .given .1)) (raised-none (at-pre .pre .1 .0 .1) k refl))
-    (at-tagged2 .tagged2 .ensures))
-    (λ c. c .before .before .both .ensures .long)
-    (λ c. let at-both = c .before .before in let at-split2 = at-both .before .before in let at-match = at-split2 .before in
-    let k = at-match .match .keys6 in let at-if1 = at-match .before .before .before .before .before in let at-pre = at-if1 .before .before in
-    laid-by (walk-two _ _ _ _ (at-if1 .if1 .left) (cons-items (at-pre .pre .1 .0 .0) k (at-split2 .split2 .ensures))
-    (raised-none (at-pre .pre .1 .0 .1) k refl)) (at-both .both .ensures))
-    (λ c. c .before .before .both2 .ensures .long)
-    (λ c. let at-both2 = c .before .before in let at-parts = at-both2 .before .before .before in let at-match = at-parts .before .before in
-    let k = at-match .match .keys7 in let at-if1 = at-match .before .before .before .before .before in let at-pre = at-if1 .before .before in
-    laid-by (walk-two _ _ _ _ (at-if1 .if1 .left) (dep-items (at-pre .pre .1 .0 .0) k (at-parts .parts .ensures))
-    (raised-none (at-pre .pre .1 .0 .1) k refl)) (at-both2 .both2 .ensures))
-    (λ c. c .before .before .lay2 .ensures .long)
-    (λ c. let at-lay2 = c .before .before in let at-split3 = at-lay2 .before .before in let at-match = at-split3 .before in
-    let k = at-match .match .keys8 in let at-if1 = at-match .before .before .before .before .before in let at-pre = at-if1 .before .before in
-    laid-by (walk-same _ _ _ _ (at-if1 .if1 .left) (except-items (at-pre .pre .1 .0 .0) k (at-split3 .split3 .ensures))
-    (raised-none (at-pre .pre .1 .0 .1) k refl)) (at-lay2 .lay2 .ensures))
-    (λ c. c .before .before .lay3 .ensures .long)
-    (λ c. let at-lay3 = c .before .before in let at-match = at-lay3 .before .before in let k = at-match .match .keys9 in
-    let at-if1 = at-match .before .before .before .before .before in let at-pre = at-if1 .before .before in laid-by (walk-same _ _ _ _
-    (at-if1 .if1 .left) (fix-items (at-pre .pre .1 .0 .0) k) (raised-none (at-pre .pre .1 .0 .1) k refl)) (at-lay3 .lay3 .ensures))
-    (λ c. c .before .before .lay4 .ensures .long)
-    (λ c. let at-lay4 = c .before .before in let at-match = at-lay4 .before .before in let k = at-match .match .keys10 in
-    let at-if1 = at-match .before .before .before .before .before in let at-pre = at-if1 .before .before in laid-by (walk-same _ _ _ _
-    (at-if1 .if1 .left) (again-items (at-pre .pre .1 .0 .0) k) (raised-none (at-pre .pre .1 .0 .1) k refl)) (at-lay4 .lay4 .ensures))
-    (λ c. absurd (known (visited (c .before .before .before .before .before .before .before .pre .1 .0 .0)) (c .match .rest))))
+    (λ c. let at-pre = c .before .before .before in let q = in-plan (visited (at-pre .pre .1 .0 .0)) in omega (arith, q .0, q .1))
+    (λ c. let at-pre = c .before .before .before in let q = in-plan (visited (at-pre .pre .1 .0 .0)) in omega (arith, q .0, q .1))
+    (λ c. let at-pre = c .before .before .before .before in let q = in-plan (visited (at-pre .pre .1 .0 .0)) in omega (arith, q .0, q .1))
+    (λ c. let at-pre = c .before .before .before .before in let q = in-plan (visited (at-pre .pre .1 .0 .0)) in omega (arith, q .0, q .1))
+    (λ c. let at-pre = c .before .before .before .before in let q = in-plan (visited (at-pre .pre .1 .0 .0)) in omega (arith, q .0, q .1))
+    (λ c. let at-pre = c .before .before .before .before in let q = in-plan (visited (at-pre .pre .1 .0 .0)) in omega (arith, q .0, q .1))
+    (λ c. let at-pre = c .before .before .before .before .before in let q = in-plan (visited (at-pre .pre .1 .0 .0)) in omega (arith, q .0, q .1))
+    (λ c. let at-pre = c .before .before .before .before .before in let q = in-plan (visited (at-pre .pre .1 .0 .0)) in omega (arith, q .0, q .1))
+    (λ c. let at-pre = c .before .before .before .before .before in let q = in-plan (visited (at-pre .pre .1 .0 .0)) in omega (arith, q .0, q .1))
+    (λ c. let at-pre = c .before .before .before .before .before in let q = in-plan (visited (at-pre .pre .1 .0 .0)) in omega (arith, q .0, q .1))
+    (λ c. let at-pre = c .before .before .before .before .before .before in let q = in-plan (visited (at-pre .pre .1 .0 .0)) in omega (arith, q .0, q .1))
+    (λ c. let at-pre = c .before .before .before .before .before .before .before in omega (arith, at-pre .pre .1 .1 .0, at-pre .pre .1 .1 .1))
+    (λ c κs. let at-pre = c .before .before .before .before .before .before .before .before in at-pre .pre .1 .1 .3)
+    (λ c. let at-pre = c .before .before .before .before .before .before .before in omega (arith, at-pre .pre .1 .1 .0, at-pre .pre .1 .1 .1))
+    (λ c κs. let at-pre = c .before .before .before .before .before .before .before .before in at-pre .pre .1 .1 .3)
+    (λ c κs. let at-pre = c .before .before .before .before .before .before .before .before in pool-place (at-pre .pre .1 .0 .0) (c .before .match .keys3))
+    (λ c κs. let at-pre = c .before .before .before .before .before .before .before .before .before .before in at-pre .pre .1 .1 .3)
+    (λ c. let at-pre = c .before .before .before .before .before .before .before in omega (arith, at-pre .pre .1 .1 .1, shift-small (visited (at-pre .pre .1 .0 .0)) (c .match .keys4)))
+    (λ c. let at-if1 = c .before .before .before .before .before in omega (arith, at-if1 .if1 .left))
+    (λ c κs. let at-if1 = c .before .before .before .before .before .before in let at-pre = at-if1 .before .before in let v = at-pre .pre .1 .0 .0 in let k = c .before .match .keys4 in lay-shift _ (at-pre .pre .0) (at-if1 .if1 .left) (at-pre .pre .1 .1)
+    (next-by v (shift-items v k) .0) (shift-raised (visited v) k _) (shift-small (visited v) k))
+    (λ c κs. let at-pre = c .before .before .before .before .before .before .before in let v = visited (at-pre .pre .1 .0 .0) in parts-in v (or-lower v (c .match .keys5)))
+    (λ c. let at-if1 = c .before .before .before .before .before .before in omega (arith, at-if1 .if1 .left))
+    (λ c κs. let at-match = c .before .before in let at-if1 = at-match .before .before .before .before .before in let at-pre = at-if1 .before .before in let v = at-pre .pre .1 .0 .0 in lay-tagged _ (at-pre .pre .0) (at-if1 .if1 .left) (at-pre .pre .1 .1)
+    (next-by v (items-of (or-rule (visited v) (at-match .match .keys5)) ∙ c .before .step2 .ensures) .0))
+    (λ c κs. let at-pre = c .before .before .before .before .before .before .before in let v = visited (at-pre .pre .1 .0 .0) in let l = cons-lower v (c .match .keys6) in (parts-in v l, words-some v l))
+    (λ c. let at-if1 = c .before .before .before .before .before .before in omega (arith, at-if1 .if1 .left))
+    (λ c κs. let at-match = c .before .before in let at-if1 = at-match .before .before .before .before .before in let at-pre = at-if1 .before .before in let v = at-pre .pre .1 .0 .0 in let n = next-by v (items-of (cons-rule (visited v) (at-match .match .keys6)) ∙ c .before .step3 .ensures) in
+    lay-both _ (at-pre .pre .0) (at-if1 .if1 .left) (at-pre .pre .1 .1) (n .0) (n .1 .0))
+    (λ c κs. let at-pre = c .before .before .before .before .before .before .before .before in let v = at-pre .pre .1 .0 .0 in ((choosing (visited v) (c .before .match .keys7) .words, v .walks .slight), dep-low v (c .before .match .keys7)))
+    (λ c. let at-if1 = c .before .before .before .before .before .before .before in omega (arith, at-if1 .if1 .left))
+    (λ c κs. let at-match = c .before .before .before in let at-if1 = at-match .before .before .before .before .before in let at-pre = at-if1 .before .before in let v = at-pre .pre .1 .0 .0 in let n = next-by v (dep-items v (at-match .match .keys7) (c .before .step4 .ensures _)) in
+    lay-both _ (at-pre .pre .0) (at-if1 .if1 .left) (at-pre .pre .1 .1) (n .0) (n .1 .0))
+    (λ c κs. let at-pre = c .before .before .before .before .before .before .before in omega (arith, at-pre .pre .1 .1 .0))
+    (λ c. let at-if1 = c .before .before .before .before .before .before in omega (arith, at-if1 .if1 .left))
+    (λ c κs. let at-match = c .before .before in let at-if1 = at-match .before .before .before .before .before in let at-pre = at-if1 .before .before in let v = at-pre .pre .1 .0 .0 in lay-part _ (at-pre .pre .0) (at-if1 .if1 .left) (at-pre .pre .1 .1) (next-by v (except-items v (at-match .match .keys8) (c .before .split .ensures)) .0))
+    (λ c. let at-if1 = c .before .before .before .before .before in omega (arith, at-if1 .if1 .left))
+    (λ c κs. let at-if1 = c .before .before .before .before .before .before in let at-pre = at-if1 .before .before in let v = at-pre .pre .1 .0 .0 in lay-part _ (at-pre .pre .0) (at-if1 .if1 .left) (at-pre .pre .1 .1) (next-by v (fix-items v (c .before .match .keys9)) .0))
+    (λ c. let at-if1 = c .before .before .before .before .before in omega (arith, at-if1 .if1 .left))
+    (λ c κs. let at-if1 = c .before .before .before .before .before .before in let at-pre = at-if1 .before .before in let v = at-pre .pre .1 .0 .0 in lay-part _ (at-pre .pre .0) (at-if1 .if1 .left) (at-pre .pre .1 .1) (next-by v (again-items v (c .before .match .keys10)) .0))
+    (λ c. let at-put = c .before .before in at-put .put .ensures .long)
+    (λ c. let at-put = c .before .before in let at-match = at-put .before .before in let at-if1 = at-match .before .before .before .before .before in let at-pre = at-if1 .before .before in laid-by (walk-cell _ _ _ _ (at-if1 .if1 .left) (below-items (at-pre .pre .1 .0 .0) (at-match .match .keys1)) refl) (at-put .put .ensures))
+    (λ c. let at-put2 = c .before .before in at-put2 .put2 .ensures .long)
+    (λ c. let at-put2 = c .before .before in let at-match = at-put2 .before .before in let at-if1 = at-match .before .before .before .before .before in let at-pre = at-if1 .before .before in laid-by (walk-cell _ _ _ _ (at-if1 .if1 .left) (nats-items (at-pre .pre .1 .0 .0) (at-match .match .keys2)) refl) (at-put2 .put2 .ensures))
+    (λ c. let at-put3 = c .before .before in at-put3 .put3 .ensures .long)
+    (λ c. let at-put3 = c .before .before in let at-step = at-put3 .before .before in let at-match = at-step .before .before in let at-if1 = at-match .before .before .before .before .before in let at-pre = at-if1 .before .before in laid-by (walk-word _ _ _ _ (at-if1 .if1 .left) (pool-items (at-pre .pre .1 .0 .0) (at-match .match .keys3) (at-step .step .ensures)) (raised-none (at-pre .pre .1 .0 .1) (at-match .match .keys3) refl)) (at-put3 .put3 .ensures))
+    (λ c. let at-lay = c .before .before in at-lay .lay .ensures .long)
+    (λ c. let at-lay = c .before .before in let at-match = at-lay .before .before in let at-if1 = at-match .before .before .before .before .before in let at-pre = at-if1 .before .before in laid-by (walk-pass _ _ _ _ (at-if1 .if1 .left) (shift-items (at-pre .pre .1 .0 .0) (at-match .match .keys4)) refl) (at-lay .lay .ensures))
+    (λ c. let at-tagged = c .before .before in at-tagged .tagged .ensures .long)
+    (λ c. let at-tagged = c .before .before in let at-step2 = at-tagged .before .before in let at-match = at-step2 .before in let at-if1 = at-match .before .before .before .before .before in let at-pre = at-if1 .before .before in laid-by (walk-tag _ _ _ _ (at-if1 .if1 .left) (items-of (or-rule (visited (at-pre .pre .1 .0 .0)) (at-match .match .keys5)) ∙ at-step2 .step2 .ensures) (raised-none (at-pre .pre .1 .0 .1) (at-match .match .keys5) refl)) (at-tagged .tagged .ensures))
+    (λ c. let at-both = c .before .before in at-both .both .ensures .long)
+    (λ c. let at-both = c .before .before in let at-step3 = at-both .before .before in let at-match = at-step3 .before in let at-if1 = at-match .before .before .before .before .before in let at-pre = at-if1 .before .before in laid-by (walk-two _ _ _ _ (at-if1 .if1 .left) (items-of (cons-rule (visited (at-pre .pre .1 .0 .0)) (at-match .match .keys6)) ∙ at-step3 .step3 .ensures) (raised-none (at-pre .pre .1 .0 .1) (at-match .match .keys6) refl)) (at-both .both .ensures))
+    (λ c. let at-both2 = c .before .before in at-both2 .both2 .ensures .long)
+    (λ c. let at-both2 = c .before .before in let at-step4 = at-both2 .before .before in let at-match = at-step4 .before .before in let at-if1 = at-match .before .before .before .before .before in let at-pre = at-if1 .before .before in laid-by (walk-two _ _ _ _ (at-if1 .if1 .left) (dep-items (at-pre .pre .1 .0 .0) (at-match .match .keys7) (at-step4 .step4 .ensures _)) (raised-none (at-pre .pre .1 .0 .1) (at-match .match .keys7) refl)) (at-both2 .both2 .ensures))
+    (λ c. let at-lay2 = c .before .before in at-lay2 .lay2 .ensures .long)
+    (λ c. let at-lay2 = c .before .before in let at-split = at-lay2 .before .before in let at-match = at-split .before in let at-if1 = at-match .before .before .before .before .before in let at-pre = at-if1 .before .before in laid-by (walk-same _ _ _ _ (at-if1 .if1 .left) (except-items (at-pre .pre .1 .0 .0) (at-match .match .keys8) (at-split .split .ensures)) (raised-none (at-pre .pre .1 .0 .1) (at-match .match .keys8) refl)) (at-lay2 .lay2 .ensures))
+    (λ c. let at-lay3 = c .before .before in at-lay3 .lay3 .ensures .long)
+    (λ c. let at-lay3 = c .before .before in let at-match = at-lay3 .before .before in let at-if1 = at-match .before .before .before .before .before in let at-pre = at-if1 .before .before in laid-by (walk-same _ _ _ _ (at-if1 .if1 .left) (fix-items (at-pre .pre .1 .0 .0) (at-match .match .keys9)) (raised-none (at-pre .pre .1 .0 .1) (at-match .match .keys9) refl)) (at-lay3 .lay3 .ensures))
+    (λ c. let at-lay4 = c .before .before in at-lay4 .lay4 .ensures .long)
+    (λ c. let at-lay4 = c .before .before in let at-match = at-lay4 .before .before in let at-if1 = at-match .before .before .before .before .before in let at-pre = at-if1 .before .before in laid-by (walk-same _ _ _ _ (at-if1 .if1 .left) (again-items (at-pre .pre .1 .0 .0) (at-match .match .keys10)) (raised-none (at-pre .pre .1 .0 .1) (at-match .match .keys10) refl)) (at-lay4 .lay4 .ensures))
+    (λ c. let at-pre = c .before .before .before .before .before .before .before in absurd (known (visited (at-pre .pre .1 .0 .0)) (c .match .rest))))
     (λ t. tagged-lts.spec (lay-below t, lay.Post) (tagged-at t) tagged.Post
     (λ c. laid-none _ _ (c .if1 .taken))
     (λ c. omega (arith, c .if1 .left))
     (λ c. simp length-set (omega (arith, c .if1 .left)))
     (λ c. simp length-set (omega (arith, c .if1 .left)))
     (λ c. simp length-set (omega (arith, c .if1 .left)))
-    (λ c κs. let at-args = c .before .before .before in let p = at-args .pre in (
-      omega (arith, p .0),
-      (
-        (p .1 .0, raised-zero _ _),
-        (
-          p .1 .1
-              .0,
-          omega (arith, p .1 .1 .1),
-          p .1 .1 .1,
-          lent-set (at-args .args .tag) (at-args .args .out .now) (p .1 .1 .2),
-        ),
-      ),
-    ))
+    (λ c κs. let at-pre = c .before .before .before in let p = at-pre .pre in
+    (omega (arith, p .0), ((p .1 .0, raised-zero _ _), (p .1 .1 .0, omega (arith, p .1 .1 .1), p .1 .1 .1, lent-set (at-pre .args .s .tag) (at-pre .args .out .now) (p .1 .1 .2)))))
     (λ c. tagged-one t c .long)
     (λ c. tagged-one t c))

@@ -4,19 +4,18 @@
 use mathlib.Core.Path.{refl, _∙_}
 use Prim.Native.Nat.{ℕ, _+_, _*_, _<_}
 use native.Mathlib.Omega.{arith}
-use borrow.Author.Needs.{needs}
 use borrow.Fn.Kinds.{In}
 use borrow.Fn.PlainCycle.{Measures, is, falls, and}
 use Rattle.walk.proofs.Rooms.{tallied-deep, tallied-full, tallied-cell, left-within, two-stops, two-left}
 use Rattle.walk.proofs.Visit.{walk-deep, walk-cell, walk-pass, walk-tag, walk-two, visited, next-by}
-use Rattle.walk.proofs.Nodes.{in-plan, known, parts-in, words-some}
+use Rattle.walk.proofs.Nodes.{items-of, in-plan, known, parts-in, words-some}
 use Rattle.walk.proofs.kinds.Below.{below-items}
 use Rattle.walk.proofs.kinds.Nats.{nats-items}
 use Rattle.walk.proofs.kinds.Pool.{pool-items}
 use Rattle.walk.proofs.kinds.Shift.{shift-items}
-use Rattle.walk.proofs.kinds.Or.{or-lower, or-first, or-second}
-use Rattle.walk.proofs.kinds.Cons.{cons-lower, cons-items}
-use Rattle.walk.proofs.kinds.Dep.{choosing, dep-items, dep-place}
+use Rattle.walk.proofs.kinds.Or.{or-lower, or-rule}
+use Rattle.walk.proofs.kinds.Cons.{cons-lower, cons-rule}
+use Rattle.walk.proofs.kinds.Dep.{choosing, dep-items, dep-low}
 use Rattle.walk.proofs.kinds.Except.{except-items}
 use Rattle.walk.proofs.kinds.Fix.{fix-items}
 use Rattle.walk.proofs.kinds.Again.{again-items}
@@ -30,19 +29,19 @@ use Rattle.laying.proofs.tally.+both+tagged+tally.Lts-tagged as tagged-
 use Rattle.laying.proofs.tally.tally.Reads as tally
 use Rattle.laying.proofs.tally.tally.Kinds as tally-kinds
 use Rattle.laying.proofs.tally.+both+tagged+tally.Lts-tally as tally-lts
-use Rattle.grammar.proofs.kinds.cons.split.Reads as cons-split-reads
-use Rattle.grammar.proofs.kinds.dep.parts.Reads as parts-reads
-use Rattle.grammar.proofs.kinds.or.split.Reads as or-split-reads
-use Rattle.numbers.proofs.except.split.Reads as except-split-reads
-use Rattle.laying.proofs.tally.one.Reads as one-reads
+use Rattle.grammar.proofs.kinds.cons.step.Reads as cons-step
+use Rattle.grammar.proofs.kinds.dep.step.Reads as dep-step
+use Rattle.grammar.proofs.kinds.or.step.Reads as or-step
+use Rattle.numbers.proofs.except.split.Reads as except-split
+use Rattle.laying.proofs.tally.one.Reads as one
 use Rattle.laying.proofs.tally.+both+tagged+tally.{statement}
 use Rattle.laying.proofs.tally.+both+tagged+tally.Tie.{close}
 
 abbrev μ-both : Measures 4 both-kinds.ps ℕ
-μ-both κs a = 2 * a .1 .1 .1 .1 .1 .1 .0 + 1
+μ-both κs a = 2 * a .1 .1 .1 .0 + 1
 
 abbrev μ-tagged : Measures 4 tagged-kinds.ps ℕ
-μ-tagged κs a = 2 * a .1 .1 .1 .1 .0 + 1
+μ-tagged κs a = 2 * a .1 .1 .1 .0 + 1
 
 abbrev μ-tally : Measures 4 tally-kinds.ps ℕ
 μ-tally κs a = 2 * a .1 .1 .1 .1 .0
@@ -68,22 +67,22 @@ module _ (t : ℕ) where
 
   abbrev calls : tally-lts.Claims
   calls = (
-    one-reads.Asked,
-    one-reads.Learnt,
+    one.Asked,
+    one.Learnt,
     tally-below,
     tally.Post,
-    or-split-reads.Asked,
-    or-split-reads.Learnt,
+    or-step.Asked,
+    or-step.Learnt,
     tagged-below,
     tagged.Post,
-    cons-split-reads.Asked,
-    cons-split-reads.Learnt,
+    cons-step.Asked,
+    cons-step.Learnt,
     both-below,
     both.Post,
-    parts-reads.Asked,
-    parts-reads.Learnt,
-    except-split-reads.Asked,
-    except-split-reads.Learnt,
+    dep-step.Asked,
+    dep-step.Learnt,
+    except-split.Asked,
+    except-split.Learnt,
   )
 
 pub +both+tagged+tally-spec : {M : Type 1} → statement M
@@ -91,19 +90,9 @@ pub +both+tagged+tally-spec : {M : Type 1} → statement M
     (λ t. both-lts.spec (tally-below t, tally.Post) (both-at t) both.Post
     (λ c κs. let p = c .pre in (omega (arith, p .0), (p .1 .0 .0, (p .1 .1 .0, p .1 .1 .2, p .1 .1 .3))))
     (λ c. two-stops _ _ _ _ (c .before .tally .ensures) (c .if1 .taken))
-    (λ c κs. let at-tally = c .before in let at-pre = at-tally .before in let p = at-pre .pre in (
-      omega (arith, p .0),
-      (
-        p .1 .0 .1,
-        (
-          p .1 .1
-              .1,
-          p .1 .1 .2,
-          omega (arith, p .1 .1 .3, left-within _ (at-tally .tally .ensures) (c .if1 .left)),
-        ),
-      ),
-    ))
-    (λ c. two-left _ _ _ _ (c .before .before .tally .ensures) (c .before .if1 .left) (c .tally2 .ensures)))
+    (λ c κs. let at-pre = c .before .before in let p = at-pre .pre in
+    (omega (arith, p .0), (p .1 .0 .1, (p .1 .1 .1, p .1 .1 .2, omega (arith, p .1 .1 .3, left-within _ (c .before .tally .ensures) (c .if1 .left))))))
+    (λ c. let at-tally = c .before .before in two-left _ _ _ _ (at-tally .tally .ensures) (c .before .if1 .left) (c .tally2 .ensures)))
     (λ t. tagged-lts.spec (tally-below t, tally.Post) (tagged-at t) tagged.Post
     (λ c. tallied-full _ _ _ (c .if1 .taken))
     (λ c. omega (arith, c .if1 .left))
@@ -111,95 +100,49 @@ pub +both+tagged+tally-spec : {M : Type 1} → statement M
     (λ c. c .tally .ensures ∙ tallied-cell _ _ _ (c .before .if1 .left)))
     (λ t. tally-lts.spec (calls t) (tally-at t) tally.Post
     (λ c. tally-by _ (walk-deep _ _ _ _ (c .if1 .taken)) (tallied-deep _))
-    (λ c. let q = in-plan (visited (c .before .before .pre .1 .0)) in omega (arith, q .0, q .1))
-    (λ c. let q = in-plan (visited (c .before .before .pre .1 .0)) in omega (arith, q .0, q .1))
-    (λ c. let q = in-plan (visited (c .before .before .before .pre .1 .0)) in omega (arith, q .0, q .1))
-    (λ c. let q = in-plan (visited (c .before .before .before .pre .1 .0)) in omega (arith, q .0, q .1))
-    (λ c. let q = in-plan (visited (c .before .before .before .pre .1 .0)) in omega (arith, q .0, q .1))
-    (λ c. let q = in-plan (visited (c .before .before .before .pre .1 .0)) in omega (arith, q .0, q .1))
-    (λ c. let q = in-plan (visited (c .before .before .before .before .pre .1 .0)) in omega (arith, q .0, q .1))
-    (λ c. let q = in-plan (visited (c .before .before .before .before .pre .1 .0)) in omega (arith, q .0, q .1))
-    (λ c. let q = in-plan (visited (c .before .before .before .before .pre .1 .0)) in omega (arith, q .0, q .1))
-    (λ c. let q = in-plan (visited (c .before .before .before .before .pre .1 .0)) in omega (arith, q .0, q .1))
-    (λ c. let q = in-plan (visited (c .before .before .before .before .before .pre .1 .0)) in omega (arith, q .0, q .1))
-    (λ c κs. c .before .before .before .before .before .before .pre .1 .1 .2)
-    (λ c κs. c .before .before .before .before .before .before .pre .1 .1 .2)
-    (λ c κs. c .before .before .before .before .before .before .pre .1 .1 .2)
-    (λ c. omega (arith, c .before .before .before .before .before .if1 .left))
-    (λ c κs. let at-if1 = c .before .before .before .before .before in let at-pre = at-if1 .before in let v = at-pre .pre .1 .0 in tally-part
-    (at-pre .pre .0) (at-if1 .if1 .left) (at-pre .pre .1 .1) (next-by v (shift-items v (c .match .keys4)) .0))
-    (λ c κs. let at-pre = c .before .before .before .before .before .before in let v = at-pre .pre .1 .0 in parts-in (visited v)
-    (or-lower (visited v) (c .match .keys5)))
-    (λ c. search needs)
-    (λ c. omega (arith, c .before .before .before .before .before .before .before .before .before .if1 .left))
-    (λ c κs. let at-m = c .before in let at-split = at-m .before .before in let at-match = at-split .before in
-    let at-if1 = at-match .before .before .before .before .before in let at-pre = at-if1 .before in let v = at-pre .pre .1 .0 in tally-tagged
-    (at-pre .pre .0) (at-if1 .if1 .left) (at-pre .pre .1 .1)
-    (next-by v (or-first v (at-match .match .keys5) (at-split .split .ensures) (at-m .m .given .1)) .0))
-    (λ c. search needs)
-    (λ c. omega (arith, c .before .before .before .before .before .before .before .before .before .if1 .left))
-    (λ c κs. let at-m2 = c .before in let at-split = at-m2 .before .before in let at-match = at-split .before in
-    let at-if1 = at-match .before .before .before .before .before in let at-pre = at-if1 .before in let v = at-pre .pre .1 .0 in tally-tagged
-    (at-pre .pre .0) (at-if1 .if1 .left) (at-pre .pre .1 .1)
-    (next-by v (or-second v (at-match .match .keys5) (at-split .split .ensures) (at-m2 .m2 .given .1)) .0))
-    (λ c κs. let at-pre = c .before .before .before .before .before .before in let v = at-pre .pre .1 .0 in
-    let l = cons-lower (visited v) (c .match .keys6) in (parts-in (visited v) l, words-some (visited v) l))
-    (λ c. omega (arith, c .before .before .before .before .before .before .if1 .left))
-    (λ c κs. let at-match = c .before in let at-if1 = at-match .before .before .before .before .before in let at-pre = at-if1 .before in
-    let v = at-pre .pre .1 .0 in let n = next-by v (cons-items v (at-match .match .keys6) (c .split2 .ensures)) in tally-both
-    (at-pre .pre .0) (at-if1 .if1 .left) (at-pre .pre .1 .1) (n .0) (n .1 .0))
-    (λ c κs. choosing (visited (c .before .before .before .before .before .before .before .pre .1 .0)) (c .before .match .keys7) .words)
-    (λ c. let at-match = c .before .before in let at-pre = at-match .before .before .before .before .before .before in
-    let q = dep-place (at-pre .pre .1 .0) (at-match .match .keys7) (c .parts .ensures) in omega (arith, q .0, q .1))
-    (λ c. let at-match = c .before .before in let at-pre = at-match .before .before .before .before .before .before in
-    let q = dep-place (at-pre .pre .1 .0) (at-match .match .keys7) (c .parts .ensures) in omega (arith, q .0, q .1))
-    (λ c. let at-parts = c .before in let at-match = at-parts .before .before in
-    let at-pre = at-match .before .before .before .before .before .before in
-    let q = dep-place (at-pre .pre .1 .0) (at-match .match .keys7) (at-parts .parts .ensures) in omega (arith, q .0, q .1))
-    (λ c. omega (arith, c .before .before .before .before .before .before .before .before .if1 .left))
-    (λ c κs. let at-parts = c .before in let at-match = at-parts .before .before in
-    let at-if1 = at-match .before .before .before .before .before in let at-pre = at-if1 .before in let v = at-pre .pre .1 .0 in
-    let n = next-by v (dep-items v (at-match .match .keys7) (at-parts .parts .ensures)) in tally-both (at-pre .pre .0) (at-if1 .if1 .left)
-    (at-pre .pre .1 .1) (n .0) (n .1 .0))
-    (λ c κs. omega (arith, c .before .before .before .before .before .before .pre .1 .1 .0))
-    (λ c. omega (arith, c .before .before .before .before .before .before .if1 .left))
-    (λ c κs. let at-match = c .before in let at-if1 = at-match .before .before .before .before .before in let at-pre = at-if1 .before in
-    let v = at-pre .pre .1 .0 in tally-part (at-pre .pre .0) (at-if1 .if1 .left) (at-pre .pre .1 .1)
-    (next-by v (except-items v (at-match .match .keys8) (c .split3 .ensures)) .0))
-    (λ c. omega (arith, c .before .before .before .before .before .if1 .left))
-    (λ c κs. let at-if1 = c .before .before .before .before .before in let at-pre = at-if1 .before in let v = at-pre .pre .1 .0 in tally-part
-    (at-pre .pre .0) (at-if1 .if1 .left) (at-pre .pre .1 .1) (next-by v (fix-items v (c .match .keys9)) .0))
-    (λ c. omega (arith, c .before .before .before .before .before .if1 .left))
-    (λ c κs. let at-if1 = c .before .before .before .before .before in let at-pre = at-if1 .before in let v = at-pre .pre .1 .0 in tally-part
-    (at-pre .pre .0) (at-if1 .if1 .left) (at-pre .pre .1 .1) (next-by v (again-items v (c .match .keys10)) .0))
-    (λ c. let at-match = c .before in let at-if1 = at-match .before .before .before .before .before in let at-pre = at-if1 .before in
-    tally-any _ (walk-cell _ _ _ _ (at-if1 .if1 .left) (below-items (at-pre .pre .1 .0) (at-match .match .keys1)) refl) (c .one .ensures))
-    (λ c. let at-match = c .before in let at-if1 = at-match .before .before .before .before .before in let at-pre = at-if1 .before in
-    tally-any _ (walk-cell _ _ _ _ (at-if1 .if1 .left) (nats-items (at-pre .pre .1 .0) (at-match .match .keys2)) refl) (c .one2 .ensures))
-    (λ c. let at-match = c .before in let at-if1 = at-match .before .before .before .before .before in let at-pre = at-if1 .before in
-    tally-any _ (walk-cell _ _ _ _ (at-if1 .if1 .left) (pool-items (at-pre .pre .1 .0) (at-match .match .keys3)) refl) (c .one3 .ensures))
-    (λ c. let at-match = c .before in let at-if1 = at-match .before .before .before .before .before in let at-pre = at-if1 .before in tally-up
-    _ _ _ _ _ _ (walk-pass _ _ _ _ (at-if1 .if1 .left) (shift-items (at-pre .pre .1 .0) (at-match .match .keys4)) refl) (c .tally .ensures))
-    (λ c. let at-m = c .before .before in let at-split = at-m .before .before in let at-match = at-split .before in
-    let at-if1 = at-match .before .before .before .before .before in let at-pre = at-if1 .before in tally-any _ (walk-tag _ _ _ _
-    (at-if1 .if1 .left) (or-first (at-pre .pre .1 .0) (at-match .match .keys5) (at-split .split .ensures) (at-m .m .given .1)) refl)
-    (c .tagged .ensures))
-    (λ c. let at-m2 = c .before .before in let at-split = at-m2 .before .before in let at-match = at-split .before in
-    let at-if1 = at-match .before .before .before .before .before in let at-pre = at-if1 .before in tally-any _ (walk-tag _ _ _ _
-    (at-if1 .if1 .left) (or-second (at-pre .pre .1 .0) (at-match .match .keys5) (at-split .split .ensures) (at-m2 .m2 .given .1)) refl)
-    (c .tagged2 .ensures))
-    (λ c. let at-split2 = c .before in let at-match = at-split2 .before in
-    let at-if1 = at-match .before .before .before .before .before in let at-pre = at-if1 .before in tally-by _ (walk-two _ _ _ _
-    (at-if1 .if1 .left) (cons-items (at-pre .pre .1 .0) (at-match .match .keys6) (at-split2 .split2 .ensures)) refl)
-    (c .both .ensures))
-    (λ c. let at-parts = c .before .before in let at-match = at-parts .before .before in
-    let at-if1 = at-match .before .before .before .before .before in let at-pre = at-if1 .before in tally-by _ (walk-two _ _ _ _
-    (at-if1 .if1 .left) (dep-items (at-pre .pre .1 .0) (at-match .match .keys7) (at-parts .parts .ensures)) refl) (c .both2 .ensures))
-    (λ c. let at-split3 = c .before in let at-match = at-split3 .before in let at-if1 = at-match .before .before .before .before .before in
-    let at-pre = at-if1 .before in tally-by _ (walk-pass _ _ _ _ (at-if1 .if1 .left)
-    (except-items (at-pre .pre .1 .0) (at-match .match .keys8) (at-split3 .split3 .ensures)) refl) (c .tally2 .ensures))
-    (λ c. let at-match = c .before in let at-if1 = at-match .before .before .before .before .before in let at-pre = at-if1 .before in tally-by
-    _ (walk-pass _ _ _ _ (at-if1 .if1 .left) (fix-items (at-pre .pre .1 .0) (at-match .match .keys9)) refl) (c .tally3 .ensures))
-    (λ c. let at-match = c .before in let at-if1 = at-match .before .before .before .before .before in let at-pre = at-if1 .before in tally-by
-    _ (walk-pass _ _ _ _ (at-if1 .if1 .left) (again-items (at-pre .pre .1 .0) (at-match .match .keys10)) refl) (c .tally4 .ensures))
-    (λ c. absurd (known (visited (c .before .before .before .before .before .before .pre .1 .0)) (c .match .rest))))
+    (λ c. let at-pre = c .before .before in let q = in-plan (visited (at-pre .pre .1 .0)) in omega (arith, q .0, q .1))
+    (λ c. let at-pre = c .before .before in let q = in-plan (visited (at-pre .pre .1 .0)) in omega (arith, q .0, q .1))
+    (λ c. let at-pre = c .before .before .before in let q = in-plan (visited (at-pre .pre .1 .0)) in omega (arith, q .0, q .1))
+    (λ c. let at-pre = c .before .before .before in let q = in-plan (visited (at-pre .pre .1 .0)) in omega (arith, q .0, q .1))
+    (λ c. let at-pre = c .before .before .before in let q = in-plan (visited (at-pre .pre .1 .0)) in omega (arith, q .0, q .1))
+    (λ c. let at-pre = c .before .before .before in let q = in-plan (visited (at-pre .pre .1 .0)) in omega (arith, q .0, q .1))
+    (λ c. let at-pre = c .before .before .before .before in let q = in-plan (visited (at-pre .pre .1 .0)) in omega (arith, q .0, q .1))
+    (λ c. let at-pre = c .before .before .before .before in let q = in-plan (visited (at-pre .pre .1 .0)) in omega (arith, q .0, q .1))
+    (λ c. let at-pre = c .before .before .before .before in let q = in-plan (visited (at-pre .pre .1 .0)) in omega (arith, q .0, q .1))
+    (λ c. let at-pre = c .before .before .before .before in let q = in-plan (visited (at-pre .pre .1 .0)) in omega (arith, q .0, q .1))
+    (λ c. let at-pre = c .before .before .before .before .before in let q = in-plan (visited (at-pre .pre .1 .0)) in omega (arith, q .0, q .1))
+    (λ c κs. let at-pre = c .before .before .before .before .before .before in at-pre .pre .1 .1 .2)
+    (λ c κs. let at-pre = c .before .before .before .before .before .before in at-pre .pre .1 .1 .2)
+    (λ c κs. let at-pre = c .before .before .before .before .before .before in at-pre .pre .1 .1 .2)
+    (λ c. let at-if1 = c .before .before .before .before .before in omega (arith, at-if1 .if1 .left))
+    (λ c κs. let at-if1 = c .before .before .before .before .before in let at-pre = at-if1 .before in tally-part (at-pre .pre .0) (at-if1 .if1 .left) (at-pre .pre .1 .1) (next-by (at-pre .pre .1 .0) (shift-items (at-pre .pre .1 .0) (c .match .keys4)) .0))
+    (λ c κs. let at-pre = c .before .before .before .before .before .before in let v = visited (at-pre .pre .1 .0) in parts-in v (or-lower v (c .match .keys5)))
+    (λ c. let at-if1 = c .before .before .before .before .before .before in omega (arith, at-if1 .if1 .left))
+    (λ c κs. let at-if1 = c .before .before .before .before .before .before in let at-pre = at-if1 .before in tally-tagged (at-pre .pre .0) (at-if1 .if1 .left) (at-pre .pre .1 .1)
+    (next-by (at-pre .pre .1 .0) (items-of (or-rule (visited (at-pre .pre .1 .0)) (c .before .match .keys5)) ∙ c .step .ensures) .0))
+    (λ c κs. let at-pre = c .before .before .before .before .before .before in let v = visited (at-pre .pre .1 .0) in let l = cons-lower v (c .match .keys6) in (parts-in v l, words-some v l))
+    (λ c. let at-if1 = c .before .before .before .before .before .before in omega (arith, at-if1 .if1 .left))
+    (λ c κs. let at-if1 = c .before .before .before .before .before .before in let at-pre = at-if1 .before in let n = next-by (at-pre .pre .1 .0) (items-of (cons-rule (visited (at-pre .pre .1 .0)) (c .before .match .keys6)) ∙ c .step2 .ensures) in
+    tally-both (at-pre .pre .0) (at-if1 .if1 .left) (at-pre .pre .1 .1) (n .0) (n .1 .0))
+    (λ c κs. let at-pre = c .before .before .before .before .before .before .before in ((choosing (visited (at-pre .pre .1 .0)) (c .before .match .keys7) .words, at-pre .pre .1 .0 .walks .slight), dep-low (at-pre .pre .1 .0) (c .before .match .keys7)))
+    (λ c. let at-if1 = c .before .before .before .before .before .before .before in omega (arith, at-if1 .if1 .left))
+    (λ c κs. let at-match = c .before .before in let at-if1 = at-match .before .before .before .before .before in let at-pre = at-if1 .before in let n = next-by (at-pre .pre .1 .0) (dep-items (at-pre .pre .1 .0) (at-match .match .keys7) (c .step3 .ensures _)) in
+    tally-both (at-pre .pre .0) (at-if1 .if1 .left) (at-pre .pre .1 .1) (n .0) (n .1 .0))
+    (λ c κs. let at-pre = c .before .before .before .before .before .before in omega (arith, at-pre .pre .1 .1 .0))
+    (λ c. let at-if1 = c .before .before .before .before .before .before in omega (arith, at-if1 .if1 .left))
+    (λ c κs. let at-if1 = c .before .before .before .before .before .before in let at-pre = at-if1 .before in tally-part (at-pre .pre .0) (at-if1 .if1 .left) (at-pre .pre .1 .1) (next-by (at-pre .pre .1 .0) (except-items (at-pre .pre .1 .0) (c .before .match .keys8) (c .split .ensures)) .0))
+    (λ c. let at-if1 = c .before .before .before .before .before in omega (arith, at-if1 .if1 .left))
+    (λ c κs. let at-if1 = c .before .before .before .before .before in let at-pre = at-if1 .before in tally-part (at-pre .pre .0) (at-if1 .if1 .left) (at-pre .pre .1 .1) (next-by (at-pre .pre .1 .0) (fix-items (at-pre .pre .1 .0) (c .match .keys9)) .0))
+    (λ c. let at-if1 = c .before .before .before .before .before in omega (arith, at-if1 .if1 .left))
+    (λ c κs. let at-if1 = c .before .before .before .before .before in let at-pre = at-if1 .before in tally-part (at-pre .pre .0) (at-if1 .if1 .left) (at-pre .pre .1 .1) (next-by (at-pre .pre .1 .0) (again-items (at-pre .pre .1 .0) (c .match .keys10)) .0))
+    (λ c. let at-if1 = c .before .before .before .before .before .before in let at-pre = at-if1 .before in tally-any _ (walk-cell _ _ _ _ (at-if1 .if1 .left) (below-items (at-pre .pre .1 .0) (c .before .match .keys1)) refl) (c .one .ensures))
+    (λ c. let at-if1 = c .before .before .before .before .before .before in let at-pre = at-if1 .before in tally-any _ (walk-cell _ _ _ _ (at-if1 .if1 .left) (nats-items (at-pre .pre .1 .0) (c .before .match .keys2)) refl) (c .one2 .ensures))
+    (λ c. let at-if1 = c .before .before .before .before .before .before in let at-pre = at-if1 .before in tally-any _ (walk-cell _ _ _ _ (at-if1 .if1 .left) (pool-items (at-pre .pre .1 .0) (c .before .match .keys3) refl) refl) (c .one3 .ensures))
+    (λ c. let at-if1 = c .before .before .before .before .before .before in let at-pre = at-if1 .before in tally-up _ _ _ _ _ _ (walk-pass _ _ _ _ (at-if1 .if1 .left) (shift-items (at-pre .pre .1 .0) (c .before .match .keys4)) refl) (c .tally .ensures))
+    (λ c. let at-match = c .before .before in let at-if1 = at-match .before .before .before .before .before in let at-pre = at-if1 .before in tally-any _ (walk-tag _ _ _ _ (at-if1 .if1 .left) (items-of (or-rule (visited (at-pre .pre .1 .0)) (at-match .match .keys5)) ∙ c .before .step .ensures) refl) (c .tagged .ensures))
+    (λ c. let at-match = c .before .before in let at-if1 = at-match .before .before .before .before .before in let at-pre = at-if1 .before in tally-by _ (walk-two _ _ _ _ (at-if1 .if1 .left) (items-of (cons-rule (visited (at-pre .pre .1 .0)) (at-match .match .keys6)) ∙ c .before .step2 .ensures) refl) (c .both .ensures))
+    (λ c. let at-match = c .before .before .before in let at-if1 = at-match .before .before .before .before .before in let at-pre = at-if1 .before in tally-by _ (walk-two _ _ _ _ (at-if1 .if1 .left) (dep-items (at-pre .pre .1 .0) (at-match .match .keys7) (c .before .step3 .ensures _)) refl) (c .both2 .ensures))
+    (λ c. let at-match = c .before .before in let at-if1 = at-match .before .before .before .before .before in let at-pre = at-if1 .before in tally-by _ (walk-pass _ _ _ _ (at-if1 .if1 .left) (except-items (at-pre .pre .1 .0) (at-match .match .keys8) (c .before .split .ensures)) refl) (c .tally2 .ensures))
+    (λ c. let at-if1 = c .before .before .before .before .before .before in let at-pre = at-if1 .before in tally-by _ (walk-pass _ _ _ _ (at-if1 .if1 .left) (fix-items (at-pre .pre .1 .0) (c .before .match .keys9)) refl) (c .tally3 .ensures))
+    (λ c. let at-if1 = c .before .before .before .before .before .before in let at-pre = at-if1 .before in tally-by _ (walk-pass _ _ _ _ (at-if1 .if1 .left) (again-items (at-pre .pre .1 .0) (c .before .match .keys10)) refl) (c .tally4 .ensures))
+    (λ c. let at-pre = c .before .before .before .before .before .before in absurd (known (visited (at-pre .pre .1 .0)) (c .match .rest))))
