@@ -21,7 +21,7 @@ use Rattle.grammar.specs.declared.refusal.Refusal.the-variants.{Length}
 use Rattle.grammar.specs.declared.refusal.Verdict.{Verdict}
 use Rattle.grammar.specs.declared.refusal.Verdict.the-variants.{Accepted, Refused}
 use Rattle.grammar.proofs.Checked.{checked-of}
-use Rattle.grammar.proofs.Plans.{plan-sizes}
+use Rattle.planning.proofs.Plans.{plan-sizes}
 use Rattle.checked.specs.Prepared.{Prepared}
 
 pub refused-not : {r : Refusal} {k : ℕ} → Refused r k ≡ Accepted → ⊥

@@ -18,7 +18,7 @@ use Rattle.grammar.specs.Nodes.{kindIn, nodeAt, ruleAt}
 use Rattle.grammar.specs.Sizes.{sizeAt, sizes, rulesOf}
 use Rattle.grammar.specs.Plan.{sizeIn, kindWord, aWord, bWord, nodeIn, ruleIn}
 use Rattle.grammar.proofs.KindLaw.{fit-some}
-use Rattle.grammar.proofs.Plans.{plan-sizes}
+use Rattle.planning.proofs.Plans.{plan-sizes}
 use Rattle.walk.specs.Plan.{Walkable, Reading}
 use Rattle.checked.specs.Prepared.{Planning}
 

@@ -24,11 +24,12 @@ use Rattle.grammar.specs.Steps.{stepsOf, Step}
 use Rattle.grammar.specs.Checked.{Checked}
 use Rattle.grammar.specs.Plan.{sizeIn, Ready}
 use Rattle.grammar.specs.Named.{named, Names}
-use Rattle.grammar.specs.declared.steps.Named.{Named}
+use Rattle.grammar.specs.declared.named.Named.{Named}
 use Rattle.grammar.proofs.Tests.{and-left, and-right}
 use Rattle.grammar.proofs.Runs.{run-long, run-at}
-use Rattle.grammar.proofs.Stepping.{below-steps, under-mem}
+use Rattle.grammar.proofs.Stepping.{under-mem}
 use Rattle.grammar.proofs.Checked.{step-lower}
+use Rattle.planning.proofs.KindSteps.{below-steps}
 
 pub every-mem : (test : ℕ → Bool) (m : ℕ) (xs : List ℕ) → every test xs ≡ true → List·Memᴰ m xs → test m ≡ true
 unfolding every

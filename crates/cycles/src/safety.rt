@@ -10,7 +10,7 @@ ghost use Rattle.grammar.specs.Checks.{every};
 ghost use Rattle.grammar.specs.Steps.{stepsOf, Unguarded};
 ghost use Rattle.grammar.specs.Plan.{sizeIn, Ready};
 ghost use Rattle.cycles.specs.Safe.{isMarked, SafeMarks, SafePass};
-use grammar::steps::steps_of;
+use planning::steps::steps_of;
 
 // More than a table has nodes: no path that opens each of them once is as long.
 const DEEPEST: usize = 257;
