@@ -37,7 +37,7 @@ module _ {t p plan : List ℕ} (h : Planning t p plan) where
   same-b k = ⊎-elim (λ l. h .plans .blank k l .2 ∙ sym (beyond k (3 * k + 2) l (omega arith))) (h .plans .b k) (le-or-lt (nodes t) k)
 
   same-sizes : sizeIn plan ≡ sizeAt (sizes t p)
-  same-sizes = fun-ext (plan-sizes (h .plans))
+  same-sizes = plan-sizes (h .plans)
 
   pub same-rules : ruleIn plan p ≡ rulesOf t p
   unfolding ruleIn ruleAt

@@ -25,7 +25,7 @@ use Rattle.grammar.specs.kinds.Cons.{consRule}
 use Rattle.grammar.specs.kinds.Dep.{depRule, dep}
 use Rattle.grammar.specs.kinds.Except.{exceptRule}
 use Rattle.grammar.specs.kinds.Fix.{passRule}
-use Rattle.grammar.specs.Nodes.{kindIn, nodeAt, ruleAt}
+use Rattle.grammar.specs.Nodes.{kinds, kindIn, nodeAt, ruleAt}
 use Rattle.grammar.specs.Steps.{stepsOf}
 use Rattle.grammar.specs.Plan.{sizeIn, Ready}
 use Rattle.grammar.specs.Seconds.{firsts}
@@ -78,7 +78,7 @@ module _ (guarded : Bool) (t p : List ℕ) (z : ℕ → Size) (n : ℕ) where
   unfolding passRule
   again-steps e = rule-at e
 
-  pub unknown-steps : Others 10 (kindOf t n) → [] ≡ stepsOf guarded t p z n
+  pub unknown-steps : Others (length kinds) (kindOf t n) → [] ≡ stepsOf guarded t p z n
   unfolding ruleAt
   unknown-steps l = sym (ap (λ (k : Kind). k .rule (aOf t n) (bOf t n) p (before z n) .steps guarded) (others-unknown (kindOf t n) l))
 

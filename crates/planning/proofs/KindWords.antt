@@ -1,5 +1,5 @@
 -- A node's kind, by its word.
---   NoneOf, or-yes, or-no     what a `match` on the kind word, and an `or` of two tests, leave
+--   or-yes, or-no             what an `or` of two tests leaves
 --   by-word, not-known        what the kind answers of a node: of kind i, and of a kind that is not known
 --   used-at                   the rule of the constant table of used words
 --   spare-none, spare-first, spare-second   so the code's test of spare words is 01's
@@ -8,11 +8,10 @@
 use mathlib.Core.Path.{_≡_, refl, sym, subst, ap}
 use mathlib.Core.Bool.{Bool, true, false, _||_}
 use mathlib.Core.List.{List, [], _∷_, map}
-use Prim.Native.Nat.{ℕ, zero, suc, _≤_, _<_, zero-le}
+use Prim.Native.Nat.{ℕ, zero, suc, _≤_, _<_}
 use native.Mathlib.Nat.{not-suc-le-zero, le-of-suc-le-suc}
-use native.Mathlib.Omega.{arith}
 use lib.Dec.{eqb}
-use lib.ListN.{length, getD, List·getD-eq-default}
+use lib.ListN.{length, getD}
 use Rattle.numbers.specs.Size.{Size}
 use Rattle.grammar.specs.Table.{kindOf, aOf, bOf}
 use Rattle.grammar.specs.Checks.{Check, asks, row}
@@ -23,26 +22,15 @@ use Rattle.grammar.specs.declared.refusal.Refusal.{Refusal}
 use Rattle.grammar.specs.declared.refusal.Refusal.the-variants.{Kind as NoKind, SpareWord}
 use Rattle.grammar.specs.declared.kinds.Weighed.{Weighed}
 use Rattle.grammar.specs.declared.kinds.Weighed.the-variants.{Fault}
-
-is-unknown : (w : ℕ) → length kinds ≤ w → kindIn w ≡ unknown
-is-unknown w l = List·getD-eq-default kinds unknown l
-
--- a word that is none of the numbers below n, as a `match` leaves it
-abbrev pub NoneOf : ℕ → ℕ → Type 0
-NoneOf w zero = Unit {0}
-NoneOf w (suc n) = NoneOf w n × (w ≡ n → ⊥)
-
-none-of : (w n : ℕ) → NoneOf w n → n ≤ w
-none-of w zero h = zero-le
-none-of w (suc n) h = let l = none-of w n (h .0) in let f = h .1 in omega arith
+use Rattle.grammar.proofs.Known.{Others, past-unknown, others-unknown}
 
 -- ---- what the kind answers
 module _ (w : ℕ) (v : Node) (z : ℕ → Size) where
   pub by-word : (i : ℕ) {r : Weighed} → w ≡ i → r ≡ weighed (kindIn i) v z → r ≡ weighed (kindIn w) v z
   by-word i {r} e h = subst (λ (k : ℕ). r ≡ weighed (kindIn k) v z) (sym e) h
 
-  pub not-known : NoneOf w (length kinds) → Fault NoKind ≡ weighed (kindIn w) v z
-  not-known h = subst (λ (k : Kind). Fault NoKind ≡ weighed k v z) (sym (is-unknown w (none-of w (length kinds) h))) (unfold weighed row coded in refl)
+  pub not-known : Others (length kinds) w → Fault NoKind ≡ weighed (kindIn w) v z
+  not-known h = subst (λ (k : Kind). Fault NoKind ≡ weighed k v z) (sym (others-unknown w h)) (unfold weighed row coded in refl)
 
 -- ---- spare words
 used-in : (ks : List Kind) (w : ℕ) → w < length ks
@@ -60,7 +48,7 @@ or-no x e f = rw (f, e)
 
 module _ (w a b : ℕ) where
   pub spare-none : length kinds ≤ w → true ≡ spare (kindIn w) a b
-  spare-none l = subst (λ (k : Kind). true ≡ spare k a b) (sym (is-unknown w l)) refl
+  spare-none l = subst (λ (k : Kind). true ≡ spare k a b) (sym (past-unknown w l)) refl
 
   module _ {used : List (List Bool)} (u : used ≡ usedWords) (l : w < length kinds) where
     used-at : getD used w [] ≡ kindIn w .usesA ∷ kindIn w .usesB ∷ []

@@ -2,7 +2,7 @@
 --   plan-none, plan-more   an empty plan; a plan with one node more
 --   plan-sizes             the sizes that the plan's words stand for
 -- Assumes nothing.
-use mathlib.Core.Path.{_≡_, refl, sym, ap, _∙_}
+use mathlib.Core.Path.{_≡_, refl, sym, ap, _∙_, fun-ext}
 use mathlib.Core.Logic.{⊎-elim}
 use mathlib.Core.List.{List, [], _∷_, _++_}
 use Prim.Native.Nat.{ℕ, _+_, _*_, _^_, _≤_, _<_}
@@ -120,11 +120,11 @@ word-size : (s : Size) → Fit s → sizeOf (codeOf s) ≡ s
 word-size (finite s) h = sized-finite s (omega arith)
 word-size endless h = sized-endless (2 ^ 63) (omega arith)
 
-pub plan-sizes : {t : List ℕ} {zs : List Size} {n : ℕ} {plan : List ℕ} → Planned t zs n plan → (k : ℕ) → sizeIn plan k ≡ sizeAt zs k
-plan-sizes {zs} {n} {plan} h k =
+pub plan-sizes : {t : List ℕ} {zs : List Size} {n : ℕ} {plan : List ℕ} → Planned t zs n plan → sizeIn plan ≡ sizeAt zs
+plan-sizes {zs} {n} {plan} h = fun-ext (λ k.
     ap sizeOf (h .size k)
-    ∙ ⊎-elim (λ past. none (List·getD-eq-default zs (finite 0) (omega (arith, h .many)))) (λ l. word-size (sizeAt zs k) (h .fit k l)) (le-or-lt n k)
+    ∙ ⊎-elim (λ past. none k (List·getD-eq-default zs (finite 0) (omega (arith, h .many)))) (λ l. word-size (sizeAt zs k) (h .fit k l)) (le-or-lt n k))
   where
     -- a node that is not there yet has the word 0
-    none : sizeAt zs k ≡ finite 0 → sizeOf (codeOf (sizeAt zs k)) ≡ sizeAt zs k
-    none e = rw e (sized-finite 0 (omega arith))
+    none : (k : ℕ) → sizeAt zs k ≡ finite 0 → sizeOf (codeOf (sizeAt zs k)) ≡ sizeAt zs k
+    none k e = rw e (sized-finite 0 (omega arith))

@@ -2,7 +2,7 @@
 --   Weighing          the nodes below n have passed, and the plan holds them
 --   weighing-none, weighing-more, weighing-fault, weighing-end   its turns
 -- Assumes nothing.
-use mathlib.Core.Path.{_≡_, refl, sym, ap, _∙_, fun-ext}
+use mathlib.Core.Path.{_≡_, refl, sym, ap, _∙_}
 use mathlib.Core.Logic.{⊎-elim}
 use mathlib.Core.List.{List, [], _∷_, _++_}
 use Prim.Native.Nat.{ℕ, zero, suc, _+_, _*_, _≤_, _<_, zero-le}
@@ -54,7 +54,7 @@ stays t p (suc m) k l e = ⊎-elim (λ same. rw same at e) (λ less. rw (stays t
 
 module _ {t p old plan : List ℕ} {n : ℕ} (c : Weighing t p old n plan) (l : n < nodes t) {w : Weighed} (e : w ≡ coded (rowAt t p (sizeIn plan) n)) where
   here : w ≡ coded (rowAt t p (sizeAt (c .zs)) n)
-  here = e ∙ ap (λ (z : ℕ → Size). coded (rowAt t p z n)) (fun-ext (plan-sizes (c .plans)))
+  here = e ∙ ap (λ (z : ℕ → Size). coded (rowAt t p z n)) (plan-sizes (c .plans))
 
   turn : (s : Size) → rowAt t p (sizeAt (c .zs)) n ≡ sized s → {m : ℕ} {next : List ℕ} → m ≡ codeOf s → next ≡ rowed plan n (kindOf t n) (aOf t n) (bOf t n) m
       → Weighing t p old (n + 1) next
