@@ -134,6 +134,10 @@ fn all_settled(table: &[u64], pool: &[u64], plan: &[u64], safe: &mut [u8; 256]) 
     // What is marked already needs no opening.
     let mut open = *safe;
     for n in 0..count {
+        // Most are marked by now, on the way down from a node before: no call for those.
+        if safe[n] != 0 {
+            continue;
+        }
         settle(table, pool, plan, n, DEEPEST, &mut open, safe);
         if safe[n] == 0 {
             return false;
