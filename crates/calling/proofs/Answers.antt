@@ -13,6 +13,7 @@ use mathlib.Core.List.{List, [], _++_, append-assoc}
 use Prim.Native.Nat.{ℕ, zero, suc, _+_, _-_, _<_}
 use native.Mathlib.Omega.{arith}
 use lib.ListN.{length, take, drop}
+use borrow.Author.Tests.{not-true, not-false}
 use Rattle.grammar.specs.Verdict.{verdict}
 use Rattle.grammar.specs.declared.refusal.Refusal.{Refusal}
 use Rattle.grammar.specs.declared.refusal.Verdict.{Verdict}
@@ -52,14 +53,6 @@ use Rattle.calling.specs.declared.calls.Call.the-variants.{Check}
 
 pub told : {a b : List ℕ} → a ≡ b → {old last : List ℕ} {used r : ℕ} → Puts a old used last r → Puts b old used last r
 told e {old} {last} {used} {r} p = subst (λ (text : List ℕ). Puts text old used last r) e p
-
-pub not-true : (b : Bool) → not b ≡ true → b ≡ false
-not-true true e = sym e
-not-true false e = refl
-
-pub not-false : (b : Bool) → not b ≡ false → b ≡ true
-not-false true e = refl
-not-false false e = sym e
 
 -- ---- `check`
 module _ (t p rest : List ℕ) {b : Bool} (e : b ≡ same rest (bytes "\n")) where

@@ -14,7 +14,7 @@ use native.Mathlib.Omega.{arith}
 use lib.Dec.{eqb}
 use lib.ListN.{length, getD, take, drop, length-drop, drop-of-length-le}
 use lib.Seq.{drop-cons, take-append-seam}
-use borrow.Author.Tests.{eq-eqb, ne-eqb, le-leb, lt-leb}
+use borrow.Author.Tests.{eq-eqb, ne-eqb, le-leb, lt-leb, not-true, not-false}
 use Rattle.lines.specs.Ascii.{bytes}
 use Rattle.lines.specs.Line.{Reading, numbers, unreadable, lineAt, within, ReadLine}
 use Rattle.lines.specs.declared.line.Line.{Line}
@@ -29,7 +29,7 @@ use Rattle.calling.specs.Input.{lineSize, after, lineOf, mostTableWords,
 use Rattle.calling.specs.State.{knownOf, Within, Tables, Turns}
 use Rattle.calling.specs.declared.state.State.{State}
 use Rattle.calling.proofs.Taking.{within-room}
-use Rattle.calling.proofs.Answers.{told, not-true, not-false}
+use Rattle.calling.proofs.Answers.{told}
 
 -- ---- the place after a line
 size-some : (b : ℕ) (bs : List ℕ) (q : Bool) → eqb b 10 ≡ q → lineSize (b ∷ bs) ≡ cond q 1 (suc (lineSize bs))

@@ -29,7 +29,7 @@ use Rattle.grammar.specs.Verdict.{leads, unguarded, exceptOnCycle, cycles, sett
 use Rattle.grammar.specs.declared.refusal.Refusal.{Refusal}
 use Rattle.grammar.specs.declared.refusal.Refusal.the-variants.{Length, Unguarded as Rule9, ExceptOnCycle as Rule10}
 use Rattle.grammar.specs.declared.refusal.Verdict.the-variants.{Accepted, Refused}
-use Rattle.grammar.proofs.Tests.{and-left, and-right}
+use Rattle.numbers.proofs.Tests.{and-left, and-right}
 use Rattle.grammar.proofs.Checked.{checked-of}
 use Rattle.cycles.proofs.Table.{graph, unguarded-is, except-is, cycles-by}
 use Rattle.checked.proofs.Preparing.{refused-not}

@@ -2,7 +2,6 @@
 --   written-fits    the answer Done: no more cells than words were lent
 --   written-size    the count is that of the case's cells
 --   written-cells   the words that it counts are the case's cells
---   same-cells      so they depend on the table, the pool, the start and the number alone, not on what the buffer held
 -- Assumes nothing.
 use mathlib.Core.Path.{_≡_, refl, sym, ap, subst, _∙_}
 use mathlib.Core.List.{List}
@@ -68,7 +67,3 @@ module _ {t p : List ℕ} {i n : ℕ} {old last : List ℕ} {r : Written} (k : W
       let cs = cells (walk (rulesOf t p) depth 0 i n) in
       let holds : last ≡ over cs old = k .holds ∙ ap (λ (w : Written). leaves w cs old) e in
       rw (holds, tells .1) (over-front cs old (omega (arith, tells .0, tells .1)))
-
-pub same-cells : {t p : List ℕ} {i n : ℕ} {old last old' last' : List ℕ} {r r' : Written} → Wrote t p i n old last r → Wrote t p i n old' last' r'
-    → (count count' : ℕ) → r ≡ Done count → r' ≡ Done count' → take count last ≡ take count' last'
-same-cells k k' count count' e e' = written-cells k count e ∙ sym (written-cells k' count' e')

@@ -4,13 +4,14 @@
 -- Assumes nothing.
 use mathlib.Core.Path.{_≡_, refl}
 use mathlib.Core.Bool.{Bool, true, false, _&&_, _||_}
-use mathlib.Core.Logic.{_⊎_, inl, inr, ⊎-elim}
+use mathlib.Core.Logic.{⊎-elim}
+use mathlib.Mathlib.Data.Bool.Basic.{bool-eq-false}
 use Prim.Native.Nat.{ℕ, _≤_, _<_}
 use lib.Dec.{eqb}
 use borrow.Author.Tests.{eqb-true, eq-eqb}
 use Rattle.graph.specs.Paths.{Path, Decides}
 use Rattle.graph.specs.Paths.Path.{one, more}
-use Rattle.grammar.proofs.Tests.{and-left, and-right}
+use Rattle.numbers.proofs.Tests.{and-left, and-right, or-right, or-true}
 use Rattle.cases.proofs.Counts.{many, many-le, many-less}
 
 -- ---- tests
@@ -21,18 +22,6 @@ decided false d h = absurd (d .no refl h)
 undecided : {P : Type 0} (r : Bool) → Decides P r → (P → ⊥) → r ≡ false
 undecided true d h = absurd (h (d .yes refl))
 undecided false d h = refl
-
-or-true : (a b : Bool) → (a || b) ≡ true → (a ≡ true) ⊎ (b ≡ true)
-or-true true b e = inl refl
-or-true false b e = inr e
-
-or-right : (a b : Bool) → b ≡ true → (a || b) ≡ true
-or-right true b e = refl
-or-right false b e = e
-
-no-true : (a : Bool) → (a ≡ true → ⊥) → a ≡ false
-no-true true h = absurd (h refl)
-no-true false h = refl
 
 module _ (E : ℕ → ℕ → Type 0) (test : ℕ → ℕ → Bool) (decides : (a b : ℕ) → Decides (Path E a b) (test a b)) (size : ℕ) (inside : (a b : ℕ) → E a b → b < size) where
   onward : (i j : ℕ) → E i j → (k : ℕ) → test j k ≡ true → test i k ≡ true
@@ -75,4 +64,4 @@ module _ (E : ℕ → ℕ → Type 0) (test : ℕ → ℕ → Bool) (decides : (
     pub held-falls : (i j : ℕ) → E i j → mark i ≡ true → (Path E i i → ⊥) → i < size → held j < held i
     unfolding held
     held-falls i j e m none l =
-        many-less (holds j) (holds i) (held-also i j e) i (no-true (holds j i) (λ h. none (decides i i .yes (held-on i j e i h)))) (held-self i m) size l
+        many-less (holds j) (holds i) (held-also i j e) i (bool-eq-false (λ h. none (decides i i .yes (held-on i j e i h)))) (held-self i m) size l

@@ -18,7 +18,7 @@ use borrow.Author.Tests.{lt-ltb, le-ltb, ltb-true, ne-eqb}
 use Rattle.numbers.specs.Size.{Size, finite, endless, sizeOf, below, Below}
 use Rattle.numbers.proofs.size.Laws.{by-size}
 use Rattle.grammar.specs.declared.refusal.Refusal.the-variants.{NoSuchNumber, TooDeep, NoRoom}
-use Rattle.grammar.proofs.Tests.{and-left, and-right}
+use Rattle.numbers.proofs.Tests.{and-left, and-right}
 use Rattle.grammar.specs.Plan.{ruleIn}
 use Rattle.walk.specs.Walk.{walk, cells, depth}
 use Rattle.walk.specs.Room.{RoomLeft, Left, tallied}

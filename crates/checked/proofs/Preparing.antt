@@ -3,7 +3,7 @@
 --   prepared-fault    a node is refused
 --   prepared-cycles   the nodes pass, and the verdict is that on cycles
 -- Assumes nothing.
-use mathlib.Core.Path.{_≡_, ap, _∙_, fun-ext}
+use mathlib.Core.Path.{_≡_, ap, _∙_}
 use mathlib.Core.Bool.{true, false}
 use mathlib.Core.List.{List}
 use Prim.Native.Nat.{ℕ, _*_, _≤_}
@@ -21,7 +21,7 @@ use Rattle.grammar.specs.declared.refusal.Refusal.the-variants.{Length}
 use Rattle.grammar.specs.declared.refusal.Verdict.{Verdict}
 use Rattle.grammar.specs.declared.refusal.Verdict.the-variants.{Accepted, Refused}
 use Rattle.grammar.proofs.Checked.{checked-of}
-use Rattle.grammar.proofs.Plans.{plan-sizes}
+use Rattle.planning.proofs.Plans.{plan-sizes}
 use Rattle.checked.specs.Prepared.{Prepared}
 
 pub refused-not : {r : Refusal} {k : ℕ} → Refused r k ≡ Accepted → ⊥
@@ -53,15 +53,12 @@ module _ (t p : List ℕ) {plan : List ℕ} (whole : length t ≡ 3 * nodes t) (
     checked : Checked t p (sizeAt (sizes t p))
     checked = checked-of t p passes whole few
 
-    same : sizeIn plan ≡ sizeAt (sizes t p)
-    same = fun-ext (plan-sizes plans)
-
     pub prepared-ready : Ready t p plan
-    prepared-ready = record { checked = rw same checked; long = plans .long }
+    prepared-ready = record { checked = rw (plan-sizes plans) checked; long = plans .long }
 
     pub prepared-cycles : length plan ≤ 1024 → {w : Verdict} → w ≡ cycles t p (sizeIn plan) → Prepared t p plan w
     unfolding verdict settled
     prepared-cycles l f = record {
-      is = rw (long, passes) (f ∙ ap (λ (z : ℕ → Size). cycles t p z) same);
+      is = rw (long, passes) (f ∙ ap (λ (z : ℕ → Size). cycles t p z) (plan-sizes plans));
       ready = λ x. record { passes = passes; plans = plans; checked = checked; short = l; slight = pooled };
     }

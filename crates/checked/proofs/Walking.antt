@@ -18,7 +18,7 @@ use Rattle.grammar.specs.Nodes.{kindIn, nodeAt, ruleAt}
 use Rattle.grammar.specs.Sizes.{sizeAt, sizes, rulesOf}
 use Rattle.grammar.specs.Plan.{sizeIn, kindWord, aWord, bWord, nodeIn, ruleIn}
 use Rattle.grammar.proofs.KindLaw.{fit-some}
-use Rattle.grammar.proofs.Plans.{plan-sizes}
+use Rattle.planning.proofs.Plans.{plan-sizes}
 use Rattle.walk.specs.Plan.{Walkable, Reading}
 use Rattle.checked.specs.Prepared.{Planning}
 
@@ -37,7 +37,7 @@ module _ {t p plan : List ℕ} (h : Planning t p plan) where
   same-b k = ⊎-elim (λ l. h .plans .blank k l .2 ∙ sym (beyond k (3 * k + 2) l (omega arith))) (h .plans .b k) (le-or-lt (nodes t) k)
 
   same-sizes : sizeIn plan ≡ sizeAt (sizes t p)
-  same-sizes = fun-ext (plan-sizes (h .plans))
+  same-sizes = plan-sizes (h .plans)
 
   pub same-rules : ruleIn plan p ≡ rulesOf t p
   unfolding ruleIn ruleAt

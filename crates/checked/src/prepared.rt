@@ -1,8 +1,8 @@
 // The check of a table, which leaves the plan that the walks use.
 ghost use Rattle.checked.specs.Prepared.{Blank, Prepared};
-use grammar::plan::weigh_all;
 use grammar::refusal::Refusal;
 use grammar::refusal::Verdict;
+use planning::plan::weigh_all;
 
 const MOST_NODES: usize = 256;
 

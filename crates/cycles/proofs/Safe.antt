@@ -6,8 +6,8 @@
 --   Settled     nodes that are settled, rising; settled-..   its turns
 --   all-safe    where no node is left, none is on a cycle
 -- Assumes nothing.
-use mathlib.Core.Path.{_≡_, refl, sym, _∙_}
-use mathlib.Core.Bool.{Bool, true, false, _&&_}
+use mathlib.Core.Path.{_≡_, sym, _∙_}
+use mathlib.Core.Bool.{Bool, true, false, and-true}
 use mathlib.Core.Logic.{⊎-elim}
 use mathlib.Core.List.{List, [], _∷_}
 use Prim.Native.Nat.{ℕ, _+_, _≤_, _<_}
@@ -47,11 +47,7 @@ module _ (marks p : List ℕ) (at count : ℕ) (in-p : at + count ≤ length p) 
 -- ---- one node
 pub one-asked : (marks : List ℕ) (n : ℕ) {there : Bool} → there ≡ true → isMarked marks n ≡ every (isMarked marks) (pick there (n ∷ []) [])
 unfolding every
-one-asked marks n e = rw e (and-true (isMarked marks n))
-  where
-    and-true : (a : Bool) → a ≡ (a && true)
-    and-true true = refl
-    and-true false = refl
+one-asked marks n e = rw e (sym (and-true (isMarked marks n)))
 
 pub none-asked : (marks : List ℕ) (n : ℕ) {there : Bool} → there ≡ false → true ≡ every (isMarked marks) (pick there (n ∷ []) [])
 unfolding every

@@ -16,7 +16,7 @@ use lib.ListN.{length, getD, take, drop, List·getD-eq-default}
 use Rattle.numbers.specs.Pick.{pick}
 use Rattle.numbers.specs.Size.{Size}
 use Rattle.graph.specs.Marks.{marked}
-use Rattle.graph.proofs.Marks.{le-or-lt}
+use Rattle.graph.proofs.Marks.{le-or-lt, marked-append}
 use Rattle.grammar.specs.Table.{kindOf, nodes}
 use Rattle.grammar.specs.Checks.{every}
 use Rattle.grammar.specs.Law.{Under}
@@ -24,11 +24,12 @@ use Rattle.grammar.specs.Steps.{stepsOf, Step}
 use Rattle.grammar.specs.Checked.{Checked}
 use Rattle.grammar.specs.Plan.{sizeIn, Ready}
 use Rattle.grammar.specs.Named.{named, Names}
-use Rattle.grammar.specs.declared.steps.Named.{Named}
-use Rattle.grammar.proofs.Tests.{and-left, and-right}
+use Rattle.grammar.specs.declared.named.Named.{Named}
+use Rattle.numbers.proofs.Tests.{and-left, and-right}
 use Rattle.grammar.proofs.Runs.{run-long, run-at}
-use Rattle.grammar.proofs.Stepping.{below-steps, under-mem}
+use Rattle.grammar.proofs.Stepping.{under-mem}
 use Rattle.grammar.proofs.Checked.{step-lower}
+use Rattle.planning.proofs.KindSteps.{below-steps}
 
 pub every-mem : (test : ℕ → Bool) (m : ℕ) (xs : List ℕ) → every test xs ≡ true → List·Memᴰ m xs → test m ≡ true
 unfolding every
@@ -79,11 +80,6 @@ under-at count (x ∷ xs) (suc i) l u = under-at count xs i (le-of-suc-le-suc l)
 under-one : (count : ℕ) (there : Bool) (n : ℕ) → Under count (pick there (n ∷ []) []) → there ≡ true → n < count
 under-one count there n u e = subst (λ (q : Bool). Under count (pick q (n ∷ []) [])) e u .0
 
-marked-both : (m xs ys : List ℕ) → marked m (xs ++ ys) ≡ marked (marked m xs) ys
-unfolding marked
-marked-both m [] ys = refl
-marked-both m (x ∷ xs) ys = marked-both _ xs ys
-
 every-both : (test : ℕ → Bool) (xs ys : List ℕ) → every test (xs ++ ys) ≡ (every test xs && every test ys)
 unfolding every
 every-both test [] ys = refl
@@ -132,7 +128,7 @@ module _ {t p plan : List ℕ} (ready : Ready t p plan) (n : ℕ) (guarded : Boo
       → last ≡ marked old (stepsOf guarded t p (sizeIn plan) n)
   unfolding named
   marks-named old {one} {two} {last} a b c =
-      c ∙ (rw (b, a) (sym (marked-both (marked old (first r)) (second r) (others p r)) ∙ sym (marked-both old (first r) (second r ++ others p r))) ∙ ap (marked old) (names .is))
+      c ∙ (rw (b, a) (sym (marked-append (marked old (first r)) (second r) (others p r)) ∙ sym (marked-append old (first r) (second r ++ others p r))) ∙ ap (marked old) (names .is))
 
   module _ (test : ℕ → Bool) {x : Bool} (e : x ≡ every test (first r)) where
     split : every test (first r ++ (second r ++ others p r)) ≡ (every test (first r) && (every test (second r) && every test (others p r)))

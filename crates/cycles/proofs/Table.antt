@@ -33,7 +33,7 @@ use Rattle.grammar.specs.Plan.{sizeIn, Ready}
 use Rattle.grammar.specs.Verdict.{leads, unguarded, exceptOnCycle, cycles}
 use Rattle.grammar.specs.declared.refusal.Refusal.the-variants.{Unguarded as Rule9, ExceptOnCycle as Rule10}
 use Rattle.grammar.specs.declared.refusal.Verdict.the-variants.{Accepted, Refused}
-use Rattle.grammar.proofs.Tests.{and-left, and-right}
+use Rattle.numbers.proofs.Tests.{and-left, and-right}
 use Rattle.numbers.specs.Size.{Size}
 use Rattle.cycles.specs.Asked.{asked, OnCycle}
 use Rattle.cycles.proofs.Steps.{step-down, step-to}

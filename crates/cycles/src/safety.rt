@@ -10,7 +10,7 @@ ghost use Rattle.grammar.specs.Checks.{every};
 ghost use Rattle.grammar.specs.Steps.{stepsOf, Unguarded};
 ghost use Rattle.grammar.specs.Plan.{sizeIn, Ready};
 ghost use Rattle.cycles.specs.Safe.{isMarked, SafeMarks, SafePass};
-use grammar::steps::steps_of;
+use planning::steps::steps_of;
 
 // More than a table has nodes: no path that opens each of them once is as long.
 const DEEPEST: usize = 257;
@@ -134,6 +134,10 @@ fn all_settled(table: &[u64], pool: &[u64], plan: &[u64], safe: &mut [u8; 256]) 
     // What is marked already needs no opening.
     let mut open = *safe;
     for n in 0..count {
+        // Most are marked by now, on the way down from a node before: no call for those.
+        if safe[n] != 0 {
+            continue;
+        }
         settle(table, pool, plan, n, DEEPEST, &mut open, safe);
         if safe[n] == 0 {
             return false;

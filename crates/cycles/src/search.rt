@@ -16,8 +16,8 @@ ghost use Rattle.grammar.specs.Steps.{stepsOf, Leads};
 ghost use Rattle.grammar.specs.Plan.{sizeIn, Ready};
 ghost use Rattle.cycles.specs.Asked.{OnCycle};
 use grammar::kinds::AGAIN;
-use grammar::steps::skips;
-use grammar::steps::steps_of;
+use planning::steps::skips;
+use planning::steps::steps_of;
 
 // Above every node's number: no such node.
 pub const NONE: u64 = 256;

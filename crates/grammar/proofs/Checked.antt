@@ -30,7 +30,7 @@ use Rattle.grammar.specs.declared.refusal.Refusal.{Refusal}
 use Rattle.grammar.specs.kinds.Fix.{passRule}
 use Rattle.grammar.proofs.KindLaw.{KindLaw, Lower, each-kind, each-but}
 use Rattle.grammar.proofs.Kept.{laws, unknown-law, lowers, unknown-lower}
-use Rattle.grammar.proofs.Plans.{at-end, at-other}
+use Rattle.grammar.proofs.Sizes.{at-end, at-other}
 
 -- ---- a row
 passes : (q : Bool) (r : Refusal) (cs : List Check) (s : Size) {m : Size} → row (asks q r ∷ cs) s ≡ sized m → (q ≡ true) × (row cs s ≡ sized m)

@@ -1,4 +1,5 @@
 -- What is proved of each kind, from its checks alone.
+--   fit-some, fit-plus   what follows where a size fits, and that a sum does where it is tested
 --   KindLaw    its rule is lawful, and its size fits
 --   Lower      its steps lead to lower nodes
 --   All, each-kind     of every kind of a list, and so of any kind word
@@ -7,15 +8,24 @@
 use mathlib.Core.Path.{_≡_, refl, ap}
 use mathlib.Core.Bool.{true}
 use mathlib.Core.List.{List, [], _∷_}
-use Prim.Native.Nat.{ℕ, zero, suc, _<_}
+use Prim.Native.Nat.{ℕ, zero, suc, _+_, _^_, _<_}
+use native.Mathlib.Omega.{arith}
 use lib.ListN.{getD}
-use Rattle.numbers.specs.Size.{Size, finite, endless, Some}
+use borrow.Author.Tests.{leb-true}
+use Rattle.numbers.specs.Size.{Size, finite, endless, Some, plus}
+use Rattle.grammar.specs.Checks.{fits}
 use Rattle.grammar.specs.Law.{Fit, Lawful, Under, Holds}
 use Rattle.grammar.specs.Kind.{Node, Kind, before}
 
 pub fit-some : (s : Size) → Fit s → Some s
 fit-some (finite s) h = h .0
 fit-some endless h = tt
+
+pub fit-plus : (s t : Size) → Fit s → fits (plus s t) ≡ true → Fit (plus s t)
+unfolding plus
+fit-plus (finite s) (finite t) h e = (omega arith, leb-true (s + t) (2 ^ 62) e)
+fit-plus (finite s) endless h e = tt
+fit-plus endless t h e = tt
 
 -- what a node may lean on: the sizes before it fit, and a fix is endless
 pub record Ground (v : Node) (z : ℕ → Size) : Type 0 where

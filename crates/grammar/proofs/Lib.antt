@@ -3,16 +3,14 @@ pub mod Tests
 pub mod Runs
 pub mod Sums
 pub mod Repeats
-pub mod Plans
 pub mod Trees
 pub mod Words
 pub mod Seconds
 pub mod KindLaw
 pub mod laws
 pub mod Kept
-pub mod KindWords
+pub mod Sizes
 pub mod Checked
-pub mod Scan
 pub mod Turns
 pub mod Joins
 pub mod Places

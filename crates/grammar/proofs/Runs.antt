@@ -18,7 +18,7 @@ use Rattle.numbers.specs.Size.{sizeOf}
 use Rattle.numbers.proofs.size.Laws.{by-size}
 use Rattle.grammar.specs.Checks.{every, isEndless, allLower, allFinite}
 use Rattle.grammar.specs.Plan.{sizeIn}
-use Rattle.grammar.proofs.Tests.{and-left, and-right}
+use Rattle.numbers.proofs.Tests.{and-left, and-right}
 
 -- every word of a list, by its places
 pub every-at : (test : ℕ → Bool) (xs : List ℕ) (i : ℕ) → i < length xs → every test xs ≡ true → test (getD xs i 0) ≡ true

@@ -14,7 +14,8 @@ use Rattle.numbers.specs.Size.{Size, finite, endless, plus}
 use Rattle.numbers.specs.Dep.{finites, endlesses, firsts, second}
 use Rattle.numbers.specs.Dep
 use Rattle.grammar.specs.Checks.{count, every, isEndless, allFinite, allEndless, total}
-use Rattle.grammar.proofs.Tests.{and-left, and-right}
+use Rattle.numbers.proofs.Tests.{and-left, and-right}
+use Rattle.grammar.proofs.Tests.{is-endless}
 use Rattle.grammar.specs.kinds.Dep.{counts, secondsOf}
 
 counts-long : (z : ℕ → Size) (cs : List ℕ) → length (counts z cs) ≡ length cs
@@ -34,10 +35,6 @@ pub counted : (s : Size) → not (isEndless s) ≡ true → finite (count s) ≡
 counted (finite s) e = refl
 counted endless e = absurd (false≢true e)
 
-unending : (s : Size) → isEndless s ≡ true → s ≡ endless
-unending (finite s) e = absurd (false≢true e)
-unending endless e = refl
-
 pub finite-total : (z : ℕ → Size) (cs : List ℕ) → allFinite z cs ≡ true → finite (Dep.total (counts z cs)) ≡ total z cs
 unfolding every total Dep.total plus
 finite-total z [] e = refl
@@ -48,7 +45,7 @@ finite-total z (c ∷ cs) e =
 endless-total : (z : ℕ → Size) (cs : List ℕ) → 0 < length cs → allEndless z cs ≡ true → endless ≡ total z cs
 unfolding every total plus
 endless-total z [] h e = absurd (not-suc-le-zero h)
-endless-total z (c ∷ cs) h e = rw (unending (z c) (and-left (isEndless (z c)) (allEndless z cs) e))
+endless-total z (c ∷ cs) h e = rw (is-endless (z c) (and-left (isEndless (z c)) (allEndless z cs) e))
 
 -- alike and not all endless
 pub else-finite : (f e : Bool) → (f || e) ≡ true → e ≡ false → f ≡ true
@@ -77,7 +74,7 @@ module _ (z : ℕ → Size) (cs : List ℕ) (alike : (allFinite z cs || allEndle
   endless-at : (ds : List ℕ) (x : ℕ) → x < length ds → allEndless z ds ≡ true → endless ≡ z (getD ds x 0)
   unfolding every
   endless-at [] x l e = absurd (not-suc-le-zero l)
-  endless-at (d ∷ ds) zero l e = sym (unending (z d) (and-left (isEndless (z d)) (allEndless z ds) e))
+  endless-at (d ∷ ds) zero l e = sym (is-endless (z d) (and-left (isEndless (z d)) (allEndless z ds) e))
   endless-at (d ∷ ds) (suc x) l e = endless-at ds x (le-of-suc-le-suc l) (and-right (isEndless (z d)) (allEndless z ds) e)
 
   pub seconds-second : (x : ℕ) → x < length cs → second (secondsOf z cs) x ≡ z (getD cs x 0)

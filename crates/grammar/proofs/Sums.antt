@@ -26,7 +26,7 @@ use Rattle.grammar.specs.Plan.{sizeIn, coded, weighedOf}
 use Rattle.grammar.specs.declared.refusal.Refusal.the-variants.{Reference, UnsuitedPart, TooLarge}
 use Rattle.grammar.specs.declared.kinds.Weighed.{Weighed}
 use Rattle.grammar.specs.declared.kinds.Weighed.the-variants.{Fault, Of as Weighs}
-use Rattle.grammar.proofs.Tests.{and-left}
+use Rattle.numbers.proofs.Tests.{and-left}
 use Rattle.grammar.proofs.Runs.{wordAt, run-long, lower-not}
 
 -- a size that is measured, and the last check of a row

@@ -14,7 +14,7 @@ use borrow.Author.Tests.{eqb-true, eq-eqb, ne-eqb, not-true}
 use Rattle.numbers.specs.Pick.{pick}
 use Rattle.graph.specs.Ways.{has}
 use Rattle.grammar.specs.Checks.{different}
-use Rattle.grammar.proofs.Tests.{and-left, and-right}
+use Rattle.numbers.proofs.Tests.{and-left, and-right, or-right}
 use Rattle.grammar.specs.kinds.Pool.{placeOf}
 
 pub place-in : (c : ℕ) (ws : List ℕ) → has c ws ≡ true → placeOf c ws < length ws
@@ -35,10 +35,6 @@ word-at c (w ∷ ws) e = by (eqb c w) refl e (word-at c ws)
         → getD (w ∷ ws) (pick t 0 (suc (placeOf c ws))) 0 ≡ c
     by true u h ih = sym (eqb-true c w u)
     by false u h ih = ih h
-
-or-right : (a b : Bool) → b ≡ true → (a || b) ≡ true
-or-right true b e = refl
-or-right false b e = e
 
 pub word-in : (ws : List ℕ) (n : ℕ) → n < length ws → has (getD ws n 0) ws ≡ true
 unfolding has

@@ -7,7 +7,7 @@ use mathlib.Core.List.{List, [], _∷_, _++_}
 use Prim.Native.Nat.{ℕ, _+_, _≤_}
 use lib.ListN.{length, take, drop}
 use Rattle.numbers.specs.Pick.{pick}
-use Rattle.grammar.specs.declared.steps.Named.{Named}
+use Rattle.grammar.specs.declared.named.Named.{Named}
 
 unfoldable pub named : List ℕ → Named → List ℕ
 named p r = pick (r .first) (r .a ∷ []) [] ++ (pick (r .second) (r .b ∷ []) [] ++ take (r .count) (drop (r .at) p))

@@ -1,7 +1,6 @@
-// Tables of document 01: the rows of its ten kinds, and the plan that the walks use. The check's
-// definitions stand in specs/, in 01's order; cycles are found by the crate above.
+// Tables of document 01: the rows of its ten kinds. The check's definitions stand in specs/, in 01's order; the
+// crate `planning` goes through the nodes, and `cycles` finds cycles.
 pub mod kinds;
 pub mod loops;
-pub mod plan;
+pub mod named;
 pub mod refusal;
-pub mod steps;

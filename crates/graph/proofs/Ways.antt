@@ -1,7 +1,7 @@
 -- The test of `specs/Ways` agrees with paths of any length: `via-sound`, `via-complete`, and both as `via-decide`.
 -- Assumes nothing.
-use mathlib.Core.Path.{_≡_, refl, sym, _∙_}
-use mathlib.Core.Bool.{Bool, true, false, _&&_, _||_, false≢true}
+use mathlib.Core.Path.{_≡_, sym, _∙_}
+use mathlib.Core.Bool.{true, _&&_, false≢true}
 use mathlib.Core.Logic.{_⊎_, inl, inr, ⊎-elim}
 use mathlib.Core.List.{List, [], _∷_, List·Memᴰ, List·Memᴰ·head, List·Memᴰ·tail}
 use Prim.Native.Nat.{ℕ, zero, suc, _<_}
@@ -9,6 +9,7 @@ use native.Mathlib.Nat.{not-suc-le-zero}
 use native.Mathlib.Omega.{arith}
 use lib.Dec.{eqb}
 use borrow.Author.Tests.{eqb-true, eq-eqb}
+use Rattle.numbers.proofs.Tests.{and-left, and-right, or-left, or-right, or-true}
 use Rattle.graph.specs.Paths.{Path, Decides}
 use Rattle.graph.specs.Paths.Path.{one, more}
 use Rattle.graph.proofs.Marks.{same?}
@@ -16,21 +17,6 @@ use Rattle.graph.proofs.Search.{Finite}
 use Rattle.graph.specs.Ways.{has, via}
 
 -- Tests and lists
-or-true : (a b : Bool) → (a || b) ≡ true → (a ≡ true) ⊎ (b ≡ true)
-or-true true b e = inl refl
-or-true false b e = inr e
-
-or-left : (a b : Bool) → a ≡ true → (a || b) ≡ true
-or-left a b e = rw e
-
-or-right : (a b : Bool) → b ≡ true → (a || b) ≡ true
-or-right true b e = refl
-or-right false b e = e
-
-and-true : (a b : Bool) → (a && b) ≡ true → (a ≡ true) × (b ≡ true)
-and-true true b e = (refl, e)
-and-true false b e = absurd (false≢true e)
-
 has-mem : (b : ℕ) (xs : List ℕ) → has b xs ≡ true → List·Memᴰ b xs
 unfolding has
 has-mem b [] e = absurd (false≢true e)
@@ -79,7 +65,7 @@ module _ {E : ℕ → ℕ → Type 0} {next : ℕ → List ℕ} {n : ℕ} (g : F
   via-sound zero a b e = one (g .of-next a b (has-mem b (next a) e))
   via-sound (suc k) a b e =
       ⊎-elim (via-sound k a b)
-      (λ both. let (x, y) = and-true (via next k a k) (via next k k b) both in path-then (via-sound k a k x) (via-sound k k b y))
+      (λ both. path-then (via-sound k a k (and-left _ (via next k k b) both)) (via-sound k k b (and-right (via next k a k) _ both)))
       (or-true (via next k a b) (via next k a k && via next k k b) e)
 
   way-via : (k a b : ℕ) → Way E k a b → via next k a b ≡ true

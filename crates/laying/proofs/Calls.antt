@@ -61,9 +61,9 @@ module _ {plan p : List ℕ} {n left t : ℕ} (up : ℕ) {long : ℕ} (e : 2 * l
 
   pub lay-tagged : {q m : ℕ} → Next plan p n q m
       → (2 * (left - 1) + 1 < t) × (Visits plan p q m × ((m + (left - 1) ≤ 2 ^ 62 + 200) × (left - 1 ≤ 200) × (long ≤ most)))
-  lay-tagged k = (omega arith, (k .visits, (omega (arith, k .near, h .0), omega (arith, h .2), h .3)))
+  lay-tagged k = tally-tagged e f (h .0, h .2, h .3) k
 
   pub lay-both : {a x b y : ℕ} → Next plan p n a x → Next plan p n b y
       → (2 * (left - 1) + 1 < t)
       × ((Visits plan p a x × Visits plan p b y) × ((x + (left - 1) ≤ 2 ^ 62 + 200) × (y + (left - 1) ≤ 2 ^ 62 + 200) × (left - 1 ≤ 200) × (long ≤ most)))
-  lay-both k o = (omega arith, ((k .visits, o .visits), (omega (arith, k .near, h .0), omega (arith, o .near, h .0), omega (arith, h .2), h .3)))
+  lay-both k o = tally-both e f (h .0, h .2, h .3) k o

@@ -7,7 +7,7 @@
 use mathlib.Core.Path.{_≡_, refl, sym, ap, _∙_}
 use mathlib.Core.Bool.{Bool, true, false}
 use mathlib.Core.List.{List, [], _∷_, _++_, append-assoc}
-use mathlib.Core.Option.{Option, none, some, Option·map}
+use mathlib.Core.Option.{Option, none, some, Option·map, Option·none-ne-some}
 use Prim.Native.Nat.{ℕ}
 use native.Mathlib.Omega.{arith}
 use lib.Dec.{leb}
@@ -24,9 +24,6 @@ use Rattle.printing.proofs.input.Numbers.{one-within, numbers-end, numb
 use Rattle.printing.proofs.answers.Lines.{lines-of}
 use Rattle.printing.proofs.Outcomes.{accepted, table-words, pool-words, line-printed, none-there}
 
-none-some : {A : Type 0} {a : A} → none ≡ some a → ⊥
-none-some e = let z : _≡_ {A = ℕ} 0 1 = cc in omega arith
-
 -- each page begins as the one before has left it, or anyhow: its rest is not printed
 pub data Turns (text t p : List ℕ) (i : ℕ) : ℕ → List ℕ → Type 0 where
   stop : {at : ℕ} {old last : List ℕ} → Answers text at t p i old last Nothing → Turns text t p i at []
@@ -38,7 +35,7 @@ at-end text at {ns} e o = by (leb (length text) at) refl
   where
     by : (q : Bool) → leb (length text) at ≡ q → ns ≡ []
     by true f = let same : some ns ≡ some [] = sym e ∙ numbers-end text at (leb-true (length text) at f) in cc
-    by false f = absurd (none-some (sym (numbers-not text at (leb-false (length text) at f) o) ∙ e))
+    by false f = absurd (Option·none-ne-some _ (sym (numbers-not text at (leb-false (length text) at f) o) ∙ e))
 
 record Rest (n : ℕ) (ns : List ℕ) (o : Option (List ℕ)) : Type 0 where
   ms : List ℕ
@@ -46,7 +43,7 @@ record Rest (n : ℕ) (ns : List ℕ) (o : Option (List ℕ)) : Type 0 where
   all : ns ≡ n ∷ ms
 
 rest-of : (n : ℕ) (ns : List ℕ) (o : Option (List ℕ)) → Option·map (n ∷_) o ≡ some ns → Rest n ns o
-rest-of n ns none e = absurd (none-some e)
+rest-of n ns none e = absurd (Option·none-ne-some _ e)
 rest-of n ns (some ms) e = let same : n ∷ ms ≡ ns = cc in record { ms = ms; is = refl; all = sym same }
 
 module _ (text t p : List ℕ) (i : ℕ) where

@@ -4,7 +4,8 @@
 use mathlib.Core.Path.{_≡_, refl, subst, ap, _∙_}
 use mathlib.Core.Bool.{true}
 use mathlib.Core.List.{List, [], _∷_, _++_, map, append-assoc}
-use Prim.Native.Nat.{ℕ, zero, suc, _+_, _-_, _<_}
+use Prim.Native.Nat.{ℕ, zero, suc, _+_, _<_}
+use native.Mathlib.Nat.{zero-add, suc-add, add-sub-cancel}
 use native.Mathlib.Omega.{arith}
 use lib.ListN.{length, length-append}
 use borrow.Author.Tests.{le-leb}
@@ -38,20 +39,11 @@ split-cells (cell c ∷ xs) ys cs e =
     (c ∷ t .0, t .1, ap (λ (es : List Event). cell c ∷ es) (t .2), t .3, s .2 ∙ ap (λ (ds : List ℕ). c ∷ ds) (t .4))
 
 -- ---- room and cells
-more : (l q : ℕ) → suc l + q ≡ suc (l + q)
-more l q = omega arith
-
-none : (q : ℕ) → 0 + q ≡ q
-none q = omega arith
-
 long-both : (ws vs : List ℕ) (q : ℕ) {cs : List ℕ} → cs ≡ ws ++ vs → length cs + q ≡ length ws + (length vs + q)
 long-both ws vs q e = rw (e, length-append) (omega arith)
 
 both-then : (ws vs rest : List ℕ) {cs : List ℕ} → cs ≡ ws ++ vs → cs ++ rest ≡ ws ++ (vs ++ rest)
 both-then ws vs rest e = rw (e, append-assoc)
-
-taken-off : (n off : ℕ) → n + off - off ≡ n
-taken-off n off = omega arith
 
 module _ (z : ℕ → Size) (count : ℕ) (g : ℕ → Rule) where
   -- every node's cells are read back, with a depth left
@@ -63,11 +55,11 @@ module _ (z : ℕ → Size) (count : ℕ) (g : ℕ → Rule) where
     tree-back : (t : Tree) (xs : List ℕ) → Under count xs → Names z xs t → (w : Path z t) (up : ℕ) (cs : List ℕ) → shown (walk g d) up (itemsOf z t w) ≡ map cell cs → (q : ℕ) (rest : List ℕ)
         → follow (run g d) up t (length cs + q) (cs ++ rest) ≡ read (endOf z t w) q rest
     unfolding shown follow cellOf
-    tree-back (done n) xs u o w up cs e q rest = rw (nil-cells cs e, none q)
+    tree-back (done n) xs u o w up cs e q rest = rw (nil-cells cs e, zero-add q)
     tree-back fails xs u o w up cs e q rest = absurd w
     tree-back (takes f) xs u o w up cs e q rest =
         let s = cell-cells (w .0 + up) (shown (walk g d) 0 (itemsOf z (f (w .0)) (w .1))) cs e in
-        rw (s .2, more, le-leb up (w .0 + up) (omega arith), taken-off (w .0) up) (tree-back (f (w .0)) xs u (o (w .0)) (w .1) 0 (s .0) (s .1) q rest)
+        rw (s .2, suc-add, le-leb up (w .0 + up) (omega arith), add-sub-cancel (w .0) up) (tree-back (f (w .0)) xs u (o (w .0)) (w .1) 0 (s .0) (s .1) q rest)
     tree-back (reads p k f) xs u o w up cs e q rest =
         let s = split-cells (walk g d (up + k) p (w .0)) (shown (walk g d) 0 (itemsOf z (f (w .0)) (w .2))) cs e in
         rw (long-both (s .0) (s .1) q (s .4), both-then (s .0) (s .1) rest (s .4), ih (up + k) p (w .0) (under-mem count xs u p (o .0)) (w .1) (s .0) (s .2) (length (s .1) + q) (s .1 ++ rest))

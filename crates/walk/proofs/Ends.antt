@@ -1,7 +1,7 @@
 -- Every number has a case at some depth, where the graph has no cycle that is not guarded and no skip on a cycle: the rules never loop.
 --   Ranked      what two ranks of the nodes must do at each step of a rule
 --   every-number   a case at some depth
---   path-near, walk-some   what the code needs of numbers that are too big; every case has at least one cell
+--   walk-some      every case has at least one cell
 -- Assumes nothing.
 use mathlib.Core.Path.{_≡_, refl, subst, ap}
 use mathlib.Core.Bool.{true, false}
@@ -15,7 +15,7 @@ use Rattle.numbers.specs.Size.{Size, Below}
 use Rattle.graph.proofs.Marks.{le-or-lt}
 use Rattle.grammar.specs.Rule.{Item, own, part, Tree, done, fails, takes, reads, Rule}
 use Rattle.walk.specs.Walk.{Event, cell, deep, shown, walk}
-use Rattle.grammar.specs.Law.{Path, endOf, Meets, itemsOf, Names, Each, Down, flat, guarded, skip, Lawful, Good}
+use Rattle.grammar.specs.Law.{Path, Meets, itemsOf, Names, Each, Down, flat, guarded, skip, Lawful, Good}
 use Rattle.grammar.proofs.Stepping.{under-mem}
 use Rattle.walk.proofs.Descent.{Falls, first, number, second, descend}
 
@@ -60,17 +60,6 @@ path-parts z xs (reads p k f) o w = ((o .0, w .1), path-parts z xs (f (w .0)) (o
 -- the parts of a visit: named, and at numbers below their sizes
 pub parts-of : (z : ℕ → Size) (count : ℕ) (r : Rule) → Lawful z count r → (n : ℕ) → Below n (r .size) → Each (λ p m. List·Memᴰ p (r .steps true) × Below m (z p)) (r .items n)
 parts-of z count r l n h = let s = l .writes n h in subst (Each _) (s .passes) (path-parts z (r .steps true) (r .tree) (l .names) (s .path))
-
--- no path ends below a part's number but by one: what is too big stays so on the way up
-pub path-near : (z : ℕ → Size) (count : ℕ) (r : Rule) → Lawful z count r → (w : Path z (r .tree)) → Each (λ p m. m ≤ endOf z (r .tree) w + 1) (itemsOf z (r .tree) w)
-path-near z count r l w =
-    let h = l .reads w in
-    subst (Each _) (h .1) (each-two (λ p m a b. near a) (r .items (endOf z (r .tree) w)) (l .falls (endOf z (r .tree) w) (h .0)) (l .falls (endOf z (r .tree) w) (h .0)))
-  where
-    near : {n p m : ℕ} → Down r n p m → m ≤ n + 1
-    near (flat s k) = omega arith
-    near (guarded k) = omega arith
-    near (skip e k) = k
 
 -- ---- a visit meets something
 shown-some : (go : ℕ → ℕ → ℕ → List Event) (z : ℕ → Size) (t : Tree) → Meets t → (w : Path z t) (up : ℕ) → Each (λ p m. (u : ℕ) → 0 < length (go u p m)) (itemsOf z t w) → 0 < length (shown go up (itemsOf z t w))

@@ -8,20 +8,11 @@
 use mathlib.Core.Path.{_≡_, refl, sym, ap, _∙_}
 use mathlib.Core.List.{List, [], _∷_, _++_, append-nil}
 use Prim.Native.Nat.{ℕ, suc, _+_, _-_, _≤_, min}
-use native.Mathlib.Nat.{not-suc-le-zero, le-of-suc-le-suc}
+use native.Mathlib.Nat.{not-suc-le-zero, le-of-suc-le-suc, zero-min, min-zero, suc-min-suc}
 use native.Mathlib.Omega.{arith}
 use lib.ListN.{length, take, drop, drop-of-length-le, length-append, length-drop}
 use lib.Seq.{take-all, take-nil}
 use Rattle.walk.specs.Filled.{over, Filled}
-
-min-suc : (a b : ℕ) → min (suc a) (suc b) ≡ suc (min a b)
-min-suc a b = omega arith
-
-min-none : (a : ℕ) → min a 0 ≡ 0
-min-none a = omega arith
-
-none-min : (a : ℕ) → min 0 a ≡ 0
-none-min a = omega arith
 
 over-none : (new : List ℕ) → over new [] ≡ []
 unfolding over
@@ -59,9 +50,9 @@ over-is (x ∷ new) (y ∷ old) = ap (λ (l : List ℕ). x ∷ l) (over-is new o
 pub over-append : (a b old : List ℕ)
     → over (a ++ b) old ≡ take (min (length a) (length old)) (over a old) ++ over b (drop (min (length a) (length old)) (over a old))
 unfolding over
-over-append [] b old = rw none-min
-over-append (x ∷ a) b [] = simp (min-none, over-none)
-over-append (x ∷ a) b (y ∷ old) = rw min-suc (ap (λ (l : List ℕ). x ∷ l) (over-append a b old))
+over-append [] b old = rw zero-min
+over-append (x ∷ a) b [] = simp (min-zero, over-none)
+over-append (x ∷ a) b (y ∷ old) = rw suc-min-suc (ap (λ (l : List ℕ). x ∷ l) (over-append a b old))
 
 -- the part from k on, which is what `&mut s[k..]` lends
 pub part-old : (k : ℕ) (l : List ℕ) → take (length l - k) (drop k l) ≡ drop k l
@@ -82,7 +73,7 @@ module _ {new old last : List ℕ} {r : ℕ} (f : Filled new old last r) where
 -- nothing to show
 pub nothing : (old : List ℕ) → Filled [] old old 0
 unfolding over
-nothing old = record { count = sym (none-min (length old)); holds = refl }
+nothing old = record { count = sym (zero-min (length old)); holds = refl }
 
 -- a fill, and then a fill of the part that it left
 pub then : {a b old mid part last : List ℕ} {k j : ℕ} → Filled a old mid k → Filled b part last j → part ≡ take (length mid - k) (drop k mid)

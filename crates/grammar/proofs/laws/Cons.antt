@@ -12,7 +12,7 @@ use borrow.Author.Tests.{ltb-true, leb-true}
 use Rattle.numbers.specs.Size.{Size, finite, endless, Some, times}
 use Rattle.grammar.specs.Checks.{fits}
 use Rattle.grammar.specs.Law.{Fit, flat, Lawful}
-use Rattle.grammar.proofs.Tests.{and-left, and-right}
+use Rattle.numbers.proofs.Tests.{and-left, and-right}
 use Rattle.grammar.specs.Rule.{reads}
 use Rattle.grammar.proofs.KindLaw.{fit-some, KindLaw, Lower}
 use native.Mathlib.Nat.{mul-le-mul}

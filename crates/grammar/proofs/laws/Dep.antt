@@ -5,18 +5,18 @@
 use mathlib.Core.Path.{_≡_, refl, subst, ap}
 use mathlib.Core.Bool.{Bool, true, not, _||_, false≢true}
 use mathlib.Core.List.{List, [], _∷_, List·Memᴰ·head, List·Memᴰ·tail}
-use Prim.Native.Nat.{ℕ, zero, suc, _+_, _^_, _≤_, _<_}
+use Prim.Native.Nat.{ℕ, zero, suc, _+_, _≤_, _<_}
 use native.Mathlib.Omega.{arith}
 use lib.Dec.{ltb}
 use lib.ListN.{length, getD}
 use borrow.Author.Tests.{ltb-true, leb-true}
-use Rattle.numbers.specs.Size.{Size, finite, endless, Below, Some, plus}
+use Rattle.numbers.specs.Size.{Size, finite, endless, Below, Some}
 use Rattle.grammar.specs.Checks.{fits, isEndless}
 use Rattle.grammar.specs.Law.{Fit, Under, flat, Lawful, Holds}
-use Rattle.grammar.proofs.Tests.{and-left, and-right}
+use Rattle.numbers.proofs.Tests.{and-left, and-right}
 use Rattle.grammar.specs.Rule.{reads}
 use Rattle.grammar.specs.Kind.{Node, before}
-use Rattle.grammar.proofs.KindLaw.{fit-some, KindLaw, Lower}
+use Rattle.grammar.proofs.KindLaw.{fit-some, fit-plus, KindLaw, Lower}
 use mathlib.Core.List.{List·Memᴰ}
 use native.Mathlib.Nat.{le-refl, not-suc-le-zero, le-of-suc-le-suc}
 use lib.ListN.{length-take, length-drop}
@@ -134,12 +134,7 @@ fit-total : (z : ℕ → Size) (n : ℕ) → ((i : ℕ) → i < n → Fit (z i))
     → fits (total z cs) ≡ true → Fit (total z cs)
 unfolding every total
 fit-total z n f [] e l u = absurd (not-suc-le-zero l)
-fit-total z n f (c ∷ cs) e l u = by (z c) (total z cs) (f c (ltb-true c n (and-left (ltb c n) (allLower n cs) e))) u
-  where
-    by : (s t : Size) → Fit s → fits (plus s t) ≡ true → Fit (plus s t)
-    by (finite s) (finite t) h v = unfold plus in (omega arith, leb-true (s + t) (2 ^ 62) v)
-    by (finite s) endless h v = unfold plus in tt
-    by endless t h v = unfold plus in tt
+fit-total z n f (c ∷ cs) e l u = fit-plus (z c) (total z cs) (f c (ltb-true c n (and-left (ltb c n) (allLower n cs) e))) u
 
 -- what a dep's checks show
 record Shown (v : Node) (z : ℕ → Size) : Type 0 where

@@ -3,17 +3,17 @@
 --   except-lower    its steps lead to lower nodes
 -- Assumes nothing.
 use mathlib.Core.Path.{_≡_, refl, subst}
-use mathlib.Core.Bool.{Bool, true, false, not, false≢true}
+use mathlib.Core.Bool.{true, not}
 use mathlib.Core.List.{[], _∷_, List·Memᴰ·head}
 use Prim.Native.Nat.{ℕ, _^_, _<_}
 use native.Mathlib.Omega.{arith}
 use lib.Dec.{eqb, ltb}
-use borrow.Author.Tests.{ltb-true, eqb-false, ne-eqb}
+use borrow.Author.Tests.{ltb-true, eqb-false, ne-eqb, not-true}
 use Rattle.numbers.specs.Pick.{pick}
 use Rattle.numbers.specs.Size.{Size, finite, endless, Below, less}
 use Rattle.grammar.specs.Checks.{isOne}
 use Rattle.grammar.specs.Law.{Fit, Spells, skip, Lawful}
-use Rattle.grammar.proofs.Tests.{and-left}
+use Rattle.numbers.proofs.Tests.{and-left}
 use Rattle.grammar.specs.Rule.{part, done, fails, reads}
 use Rattle.grammar.proofs.Trees.{spell-done, spell-reads, spell-right, read-pick, names-pick}
 use Rattle.grammar.proofs.KindLaw.{KindLaw, Lower}
@@ -42,11 +42,7 @@ except-rule z count a b l hb = record {
 
 fit-less : (s : Size) → Fit s → not (isOne s) ≡ true → Fit (less s)
 unfolding less
-fit-less (finite s) h e = let ne = eqb-false s 1 (by (eqb s 1) e) in (omega arith, omega arith)
-  where
-    by : (q : Bool) → not q ≡ true → q ≡ false
-    by true f = absurd (false≢true f)
-    by false f = refl
+fit-less (finite s) h e = let ne = eqb-false s 1 (not-true (eqb s 1) e) in (omega arith, omega arith)
 fit-less endless h e = tt
 
 pub except-law : KindLaw except

@@ -3,16 +3,15 @@
 --   fix-lower    its steps lead to lower nodes
 -- Assumes nothing.
 use mathlib.Core.Path.{_≡_, refl}
-use mathlib.Core.Bool.{true, false≢true}
 use mathlib.Core.List.{List·Memᴰ·head}
 use Prim.Native.Nat.{ℕ, _<_}
 use native.Mathlib.Nat.{le-refl}
 use native.Mathlib.Omega.{arith}
 use borrow.Author.Tests.{ltb-true}
-use Rattle.numbers.specs.Size.{Size, finite, endless}
-use Rattle.grammar.specs.Checks.{isEndless}
+use Rattle.numbers.specs.Size.{Size, endless}
 use Rattle.grammar.specs.Rule.{done, reads}
 use Rattle.grammar.specs.Law.{flat, Lawful}
+use Rattle.grammar.proofs.Tests.{is-endless}
 use Rattle.grammar.proofs.Trees.{spell-done, spell-reads}
 use Rattle.grammar.proofs.KindLaw.{KindLaw, Lower}
 use Rattle.grammar.specs.kinds.Fix.{passRule, fix}
@@ -28,10 +27,6 @@ pass-rule z count a l e = record {
   among = λ p m. m;
   falls = λ n h. (flat (List·Memᴰ·head refl) (le-refl n), tt);
 }
-
-is-endless : (s : Size) → isEndless s ≡ true → s ≡ endless
-is-endless (finite s) e = absurd (false≢true e)
-is-endless endless e = refl
 
 pub fix-law : KindLaw fix
 fix-law = record {

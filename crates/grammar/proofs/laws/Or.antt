@@ -3,19 +3,17 @@
 --   or-lower    its steps lead to lower nodes
 -- Assumes nothing.
 use mathlib.Core.Path.{_≡_, refl, subst}
-use mathlib.Core.Bool.{true}
 use mathlib.Core.List.{List, [], _∷_, List·Memᴰ·head, List·Memᴰ·tail, List·Memᴰ·eq-of-singleton}
-use Prim.Native.Nat.{ℕ, _+_, _^_, _<_}
+use Prim.Native.Nat.{ℕ, _<_}
 use native.Mathlib.Omega.{arith}
 use lib.Dec.{eqb, ltb}
-use borrow.Author.Tests.{ltb-true, leb-true, eqb-true}
+use borrow.Author.Tests.{ltb-true, eqb-true}
 use Rattle.numbers.specs.Size.{Size, finite, endless, Below, Some, plus}
-use Rattle.grammar.specs.Checks.{fits}
-use Rattle.grammar.specs.Law.{Fit, Spells, Each, Down, flat, guarded, Lawful}
-use Rattle.grammar.proofs.Tests.{and-left, and-right}
+use Rattle.grammar.specs.Law.{Spells, Each, Down, flat, guarded, Lawful}
+use Rattle.numbers.proofs.Tests.{and-left, and-right}
 use Rattle.grammar.specs.Rule.{Item, own, reads, Rule}
 use Rattle.grammar.proofs.Trees.{spell-done, spell-takes, spell-reads, read-pick, names-pick}
-use Rattle.grammar.proofs.KindLaw.{fit-some, KindLaw, Lower}
+use Rattle.grammar.proofs.KindLaw.{fit-some, fit-plus, KindLaw, Lower}
 use Rattle.numbers.specs.Or
 use Rattle.numbers.specs.Or.{PartBelow, turn}
 use Rattle.numbers.specs.declared.or.Part.{Part}
@@ -62,12 +60,6 @@ module _ (z : ℕ → Size) (count a b : ℕ) where
     among = λ p m. rw (List·Memᴰ·eq-of-singleton m) (List·Memᴰ·head refl);
     falls = λ n h. or-falls sa n (Or.split (z a) (z b) n) (Ors.join-split (z a) (z b) n);
   }
-
-fit-plus : (s t : Size) → Fit s → fits (plus s t) ≡ true → Fit (plus s t)
-unfolding plus
-fit-plus (finite s) (finite t) h e = (omega arith, leb-true (s + t) (2 ^ 62) e)
-fit-plus (finite s) endless h e = tt
-fit-plus endless t h e = tt
 
 pub or-law : KindLaw or
 or-law = record {

@@ -3,12 +3,11 @@
 --   line-back       the text of a line reads as its numbers, anywhere in a text
 --   line-text       what reads as a line of numbers is its text
 --   line-within     and lies in the text
---   line-words      its numbers are below 2^64
 -- Assumes nothing.
 use mathlib.Core.Path.{_≡_, refl, sym, ap, _∙_}
 use mathlib.Core.Bool.{Bool, true, false, cond}
 use mathlib.Core.List.{List, [], _∷_, _++_, append-assoc}
-use mathlib.Core.Option.{Option, none, some, Option·map}
+use mathlib.Core.Option.{Option, none, some, Option·map, Option·none-ne-some}
 use Prim.Native.Nat.{ℕ, _+_, _-_, _^_, _≤_, _<_}
 use native.Mathlib.Omega.{arith}
 use lib.Dec.{eqb}
@@ -24,9 +23,6 @@ use Rattle.lines.proofs.numeral.Laws.{decimal-digits, decimal-numeral, 
 use Rattle.lines.proofs.line.Outcomes.{readable-not}
 use Rattle.lines.proofs.line.Words.{FirstWord, words-some, number-of}
 use Rattle.lines.proofs.line.Rest.{restBy, at-lf, at-space}
-
-none-not : {A : Type 0} {a : A} → none ≡ some a → ⊥
-none-not e = let z : _≡_ {A = ℕ} 0 1 = cc in omega arith
 
 abbrev pub AllWords : List ℕ → Type 0
 AllWords [] = Unit {0}
@@ -67,13 +63,13 @@ record Ended (bs line : List ℕ) : Type 0 where
 
 ended-split : (bs line : List ℕ) → ended bs ≡ some line → Ended bs line
 unfolding ended
-ended-split [] line e = absurd (none-not e)
+ended-split [] line e = absurd (Option·none-ne-some _ e)
 ended-split (b ∷ bs) line e = by (eqb b 10) (ended bs) refl refl e (λ l t. ended-split bs l t)
   where
     by : (q : Bool) (o : Option (List ℕ)) → eqb b 10 ≡ q → ended bs ≡ o → cond q (some []) (Option·map (b ∷_) o) ≡ some line
         → ((l : List ℕ) → ended bs ≡ some l → Ended bs l) → Ended (b ∷ bs) line
     by true o p t f r = let same : _≡_ {A = List ℕ} [] line = cc in rw (← same, eqb-true b 10 p) (record { rest = bs; is = refl })
-    by false none p t f r = absurd (none-not f)
+    by false none p t f r = absurd (Option·none-ne-some _ f)
     by false (some l) p t f r = let same : b ∷ l ≡ line = cc in let g = r l t in rw (← same) (record { rest = g .rest; is = ap (b ∷_) (g .is) })
 
 -- the words of a line, parted by spaces again
@@ -112,11 +108,11 @@ word-of w {n} e = by (numeralAt w 0) refl e
           text = sym (ap (λ (k : ℕ). take k w) size ∙ take-all (length w) w (omega arith)) ∙ one-text w 0 t ∙ ap decimal same;
           small = rw same at (number-word w 0 t);
         }
-    found v end t false p f = absurd (none-not f)
+    found v end t false p f = absurd (Option·none-ne-some _ f)
 
     by : (x : Numeral) → numeralAt w 0 ≡ x → whole (length w) x ≡ some n → WordOf w n
     by (Of v end) t f = found v end t (eqb end (length w)) refl f
-    by Not t f = absurd (none-not f)
+    by Not t f = absurd (Option·none-ne-some _ f)
 
 numbers-words : (ws : List (List ℕ)) {ns : List ℕ} → numbersOf ws ≡ some ns → AllWords ns
 unfolding numbersOf
@@ -124,8 +120,8 @@ numbers-words [] {ns} e = let same : _≡_ {A = List ℕ} [] ns = cc in rw (← 
 numbers-words (w ∷ ws) {ns} e = by (numberOf w) (numbersOf ws) refl refl e (λ ms t. numbers-words ws t)
   where
     by : (o : Option ℕ) (p : Option (List ℕ)) → numberOf w ≡ o → numbersOf ws ≡ p → both o p ≡ some ns → ((ms : List ℕ) → numbersOf ws ≡ some ms → AllWords ms) → AllWords ns
-    by none p t u f r = absurd (none-not f)
-    by (some n) none t u f r = absurd (none-not f)
+    by none p t u f r = absurd (Option·none-ne-some _ f)
+    by (some n) none t u f r = absurd (Option·none-ne-some _ f)
     by (some n) (some ms) t u f r = let same : n ∷ ms ≡ ns = cc in rw (← same) (word-of w t .small, r ms u)
 
 numbers-some : (w : List ℕ) (ws : List (List ℕ)) → numbersOf (w ∷ ws) ≡ some [] → ⊥
@@ -133,8 +129,8 @@ unfolding numbersOf
 numbers-some w ws e = by (numberOf w) (numbersOf ws) e
   where
     by : (o : Option ℕ) (p : Option (List ℕ)) → both o p ≡ some [] → ⊥
-    by none p f = none-not f
-    by (some n) none f = none-not f
+    by none p f = Option·none-ne-some _ f
+    by (some n) none f = Option·none-ne-some _ f
     by (some n) (some ns) f = let z : _≡_ {A = ℕ} 0 1 = cc in omega arith
 
 -- the words are numbers: the texts of these, parted by spaces and ended by LF
@@ -144,13 +140,13 @@ numbers-text w [] {ns} e = by (numberOf w) refl e
   where
     by : (o : Option ℕ) → numberOf w ≡ o → both o (some []) ≡ some ns → w ++ (10 ∷ []) ≡ lineText ns
     by (some n) t f = let same : n ∷ [] ≡ ns = cc in rw (← same) (ap (_++ (10 ∷ [])) (word-of w t .text))
-    by none t f = absurd (none-not f)
+    by none t f = absurd (Option·none-ne-some _ f)
 numbers-text w (v ∷ ws) {ns} e = by (numberOf w) (numbersOf (v ∷ ws)) refl refl e (λ ms t. numbers-text v ws t)
   where
     by : (o : Option ℕ) (p : Option (List ℕ)) → numberOf w ≡ o → numbersOf (v ∷ ws) ≡ p → both o p ≡ some ns
         → ((ms : List ℕ) → numbersOf (v ∷ ws) ≡ some ms → joined (v ∷ ws) ++ (10 ∷ []) ≡ lineText ms) → (w ++ (32 ∷ joined (v ∷ ws))) ++ (10 ∷ []) ≡ lineText ns
-    by none p t u f r = absurd (none-not f)
-    by (some n) none t u f r = absurd (none-not f)
+    by none p t u f r = absurd (Option·none-ne-some _ f)
+    by (some n) none t u f r = absurd (Option·none-ne-some _ f)
     by (some n) (some []) t u f r = absurd (numbers-some v ws u)
     by (some n) (some (m ∷ ms)) t u f r =
         let same : n ∷ m ∷ ms ≡ ns = cc in
@@ -216,6 +212,3 @@ module _ (text : List ℕ) (at : ℕ) {ns : List ℕ} {next : ℕ} (e : lineAt t
   line-within =
       let f = line-found text at e in
       omega (arith, f .end, text-some ns, ap length (f .is) ∙ length-append (lineText ns) (f .rest), length-drop at text)
-
-  pub line-words : AllWords ns
-  line-words = line-found text at e .small

@@ -7,6 +7,7 @@
 -- Assumes nothing.
 use mathlib.Core.Path.{_≡_, refl, ap}
 use mathlib.Core.Bool.{Bool, true, false, cond, _&&_}
+use mathlib.Mathlib.Data.Bool.Basic.{and-elim-left, and-elim-right}
 use mathlib.Core.List.{List, [], _∷_, _++_}
 use Prim.Native.Nat.{ℕ, _+_, _^_, _≤_}
 use native.Mathlib.Omega.{arith}
@@ -16,16 +17,15 @@ use borrow.Author.Tests.{le-leb, leb-true}
 use Rattle.lines.specs.Ascii.{isDigit}
 use Rattle.lines.specs.Numeral.{run, value, wellFormed, numeral}
 use Rattle.lines.specs.declared.numeral.Numeral.the-variants.{Of, Not}
-use Rattle.lines.proofs.Tests.{and-left, and-right}
 
 pub digit-is : (b : ℕ) → 48 ≤ b → b ≤ 57 → isDigit b ≡ true
 digit-is b l h = rw (le-leb 48 b l, le-leb b 57 h)
 
 pub digit-low : (b : ℕ) → isDigit b ≡ true → 48 ≤ b
-digit-low b e = leb-true 48 b (and-left (leb 48 b) (leb b 57) e)
+digit-low b e = leb-true 48 b (and-elim-left (leb 48 b) (leb b 57) e)
 
 pub digit-high : (b : ℕ) → isDigit b ≡ true → b ≤ 57
-digit-high b e = leb-true b 57 (and-right (leb 48 b) (leb b 57) e)
+digit-high b e = leb-true b 57 (and-elim-right (leb 48 b) (leb b 57) e)
 
 abbrev pub Digits : List ℕ → Type 0
 Digits [] = Unit {0}

@@ -1,15 +1,14 @@
 -- What is known of a text that was put, by the answer.
 --   put-bytes-known    the answer Bytes: it stands at the front
 --   put-none-known     the answer NoRoom: nothing has changed
---   put-length         the bytes keep their number
 -- Assumes nothing.
-use mathlib.Core.Path.{_≡_, refl, sym, ap, _∙_}
+use mathlib.Core.Path.{_≡_, refl, sym, _∙_}
 use mathlib.Core.Bool.{Bool, true, false, cond}
 use mathlib.Core.List.{List, _++_}
 use Prim.Native.Nat.{ℕ, _≤_, _<_}
 use native.Mathlib.Omega.{arith}
 use lib.Dec.{leb}
-use lib.ListN.{length, drop, length-append, length-drop}
+use lib.ListN.{length, drop}
 use borrow.Author.Tests.{leb-true, leb-false}
 use Rattle.lines.specs.Put.{fits, PutFront}
 use Rattle.lines.specs.declared.put.Put.{Put}
@@ -31,10 +30,3 @@ module _ {text old last : List ℕ} {r : Put} (k : PutFront text old last r) whe
           → (length old < length text) × (last ≡ old)
       by true t f s = let z : _≡_ {A = ℕ} 0 1 = cc in absurd (omega arith)
       by false t f s = (leb-false (length text) (length old) t, s)
-
-  pub put-length : length last ≡ length old
-  put-length = by (fits text old) refl (k .leaves)
-    where
-      by : (q : Bool) → leb (length text) (length old) ≡ q → last ≡ cond q (text ++ drop (length text) old) old → length last ≡ length old
-      by true t s = ap length s ∙ length-append text (drop (length text) old) ∙ rw length-drop (omega (arith, leb-true (length text) (length old) t))
-      by false t s = ap length s

@@ -7,7 +7,7 @@
 -- Assumes nothing.
 use mathlib.Core.Path.{_≡_}
 use mathlib.Core.Bool.{Bool, true, false}
-use Prim.Native.Nat.{ℕ, zero, suc, _+_, _*_, _-_, _/_, _%_, _≤_, _<_}
+use Prim.Native.Nat.{ℕ, _+_, _*_, _-_, _/_, _%_, _≤_, _<_}
 use native.Mathlib.Nat.{mul-comm, mod-lt, div-add-mod', div-lt-iff-lt-mul, mul-le-mul}
 use native.Mathlib.Omega.{arith}
 use lib.Arith.{digits-lt, digits-div, digits-mod}
@@ -19,6 +19,7 @@ use Rattle.numbers.specs.Root.{root}
 use Rattle.numbers.specs.Cons.{pair, edge, split, join}
 use Rattle.numbers.specs.declared.cons.Pair.{Pair}
 use Rattle.numbers.proofs.Tests.{pick-by}
+use Rattle.numbers.proofs.Words.{own-square}
 use Rattle.numbers.proofs.root.Laws.{root-is, root-of}
 
 abbrev PairBelow : Size → Size → Pair → Type 0
@@ -96,14 +97,10 @@ split-join (finite i) (finite j) x y a b = unfold split join in by (ltb i j)
 at-least : (q m r : ℕ) → 0 < m → (q ≤ q * m + r) × (r ≤ q * m + r)
 at-least q m r h = (omega (arith, mul-le-mul {n₁ = q} {m₁ = 1} {n₂ = q} {m₂ = m} (omega arith) h), omega arith)
 
-below-square : (s : ℕ) → s ≤ s * s
-below-square zero = omega arith
-below-square (suc s) = omega arith
-
 pub join-least : (i j : Size) (x y : ℕ) → Some i → Some j → (x ≤ join i j x y) × (y ≤ join i j x y)
 unfolding join
 join-least endless endless x y a b =
-    pick-by (λ n. (x ≤ n) × (y ≤ n)) (ltb x y) (λ e. (omega arith, omega (arith, below-square y))) (λ e. (omega arith, omega arith))
+    pick-by (λ n. (x ≤ n) × (y ≤ n)) (ltb x y) (λ e. (omega arith, omega (arith, own-square y))) (λ e. (omega arith, omega arith))
 join-least (finite i) endless x y a b = (at-least y i x a .1, at-least y i x a .0)
 join-least endless (finite j) x y a b = at-least x j y b
 join-least (finite i) (finite j) x y a b =

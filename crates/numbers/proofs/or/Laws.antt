@@ -7,6 +7,7 @@
 -- Assumes nothing.
 use mathlib.Core.Path.{_≡_}
 use Prim.Native.Nat.{ℕ, _+_, _*_, _-_, _/_, _%_, _≤_, _<_}
+use native.Mathlib.Nat.{add-sub-cancel}
 use native.Mathlib.Omega.{arith}
 use lib.Dec.{eqb, ltb, leb}
 use borrow.Author.Tests.{ltb-true, ltb-false, leb-true, leb-false, eqb-true, eqb-false, lt-ltb, le-ltb, le-leb, lt-leb}
@@ -99,30 +100,27 @@ odd-turn m =
     let h : (2 * m + 1 - 1) / 2 ≡ m = omega arith in
     rw (r, h)
 
-back-off : (m u : ℕ) → m + u - u ≡ m
-back-off m u = omega arith
-
 pub split-join : (s t : Size) (p : Part) → PartBelow s t p → split s t (join s t p) ≡ p
 unfolding split join
 split-join (finite s) (finite t) (First m) h =
     pick-by (λ n. pick (leb s t) (thenSecond s n) (thenFirst t n) ≡ First m) (ltb m t)
     (λ e. let l = ltb-true m t e in
     pick-by (λ p. p ≡ First m) (leb s t) (λ u. rw (lt-ltb (2 * m + 0) (2 * s) (omega arith), even-turn m)) (λ u. rw (lt-ltb (2 * m + 0) (2 * t) (omega arith), even-turn m)))
-    (λ e. let l = ltb-false m t e in rw (lt-leb s t (omega arith), le-ltb (m + t) (2 * t) (omega arith), back-off m t))
+    (λ e. let l = ltb-false m t e in rw (lt-leb s t (omega arith), le-ltb (m + t) (2 * t) (omega arith), add-sub-cancel m t))
 split-join (finite s) (finite t) (Second m) h =
     pick-by (λ n. pick (leb s t) (thenSecond s n) (thenFirst t n) ≡ Second m) (ltb m s)
     (λ e. let l = ltb-true m s e in
     pick-by (λ p. p ≡ Second m) (leb s t) (λ u. rw (lt-ltb (2 * m + 1) (2 * s) (omega arith), odd-turn m)) (λ u. rw (lt-ltb (2 * m + 1) (2 * t) (omega arith), odd-turn m)))
-    (λ e. let l = ltb-false m s e in rw (le-leb s t (omega arith), le-ltb (m + s) (2 * s) (omega arith), back-off m s))
+    (λ e. let l = ltb-false m s e in rw (le-leb s t (omega arith), le-ltb (m + s) (2 * s) (omega arith), add-sub-cancel m s))
 split-join (finite s) endless (First m) h = rw (lt-ltb (2 * m + 0) (2 * s) (omega arith), even-turn m)
 split-join (finite s) endless (Second m) h =
     pick-by (λ n. thenSecond s n ≡ Second m) (ltb m s)
     (λ e. let l = ltb-true m s e in rw (lt-ltb (2 * m + 1) (2 * s) (omega arith), odd-turn m))
-    (λ e. let l = ltb-false m s e in rw (le-ltb (m + s) (2 * s) (omega arith), back-off m s))
+    (λ e. let l = ltb-false m s e in rw (le-ltb (m + s) (2 * s) (omega arith), add-sub-cancel m s))
 split-join endless (finite t) (First m) h =
     pick-by (λ n. thenFirst t n ≡ First m) (ltb m t)
     (λ e. let l = ltb-true m t e in rw (lt-ltb (2 * m + 0) (2 * t) (omega arith), even-turn m))
-    (λ e. let l = ltb-false m t e in rw (le-ltb (m + t) (2 * t) (omega arith), back-off m t))
+    (λ e. let l = ltb-false m t e in rw (le-ltb (m + t) (2 * t) (omega arith), add-sub-cancel m t))
 split-join endless (finite t) (Second m) h = rw (lt-ltb (2 * m + 1) (2 * t) (omega arith), odd-turn m)
 split-join endless endless (First m) h = even-turn m
 split-join endless endless (Second m) h = odd-turn m

@@ -1,7 +1,6 @@
 -- `cycles::safety::all_safe` makes passes while they go well, and settles what is left.
 -- Assumes nothing.
 use borrow.Author.Needs.{needs}
-use mathlib.Core.Bool.{false≢true}
 use native.Mathlib.Omega.{arith}
 use Rattle.graph.proofs.Marks.{blank}
 use Rattle.grammar.specs.Table.{nodes}

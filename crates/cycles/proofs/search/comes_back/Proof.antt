@@ -2,7 +2,7 @@
 -- Assumes nothing.
 use borrow.Author.Needs.{needs}
 use mathlib.Core.Path.{refl}
-use Prim.Native.Nat.{_+_, _*_, _-_}
+use Prim.Native.Nat.{_+_, _*_}
 use native.Mathlib.Omega.{arith}
 use Rattle.graph.proofs.Marks.{zeros, blank}
 use Rattle.cycles.proofs.Table.{Sought, sought-start, sought-unseen, sought-done, sought-again, sought-lower, falls-again, falls-lower, sought-end}

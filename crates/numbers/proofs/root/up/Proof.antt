@@ -2,7 +2,8 @@
 -- Assumes nothing.
 use Prim.Native.Nat.{_+_, _*_, _-_, _≤_}
 use native.Mathlib.Omega.{arith}
-use Rattle.numbers.proofs.root.Near.{square-fits, own-square, ends}
+use Rattle.numbers.proofs.Words.{own-square}
+use Rattle.numbers.proofs.root.Near.{square-fits, ends}
 use Rattle.numbers.proofs.root.up.Statement.{statement}
 use Rattle.numbers.proofs.root.up.Tie as tie
 
