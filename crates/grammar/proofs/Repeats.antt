@@ -3,7 +3,7 @@
 --   Differing   the words up to i differ from all that come after them
 -- Assumes nothing.
 use mathlib.Core.Path.{_≡_, refl, sym, subst, _∙_}
-use mathlib.Core.Bool.{Bool, true, false, not, _&&_, _||_}
+use mathlib.Core.Bool.{Bool, true, false, not, _&&_, _||_, or-true, or-false}
 use mathlib.Core.Logic.{_⊎_, inl, inr}
 use mathlib.Core.List.{List, [], _∷_}
 use Prim.Native.Nat.{ℕ, zero, suc, _+_, _-_, _≤_, _<_}
@@ -34,10 +34,6 @@ module _ {p : List ℕ} {from to x : ℕ} {seen : Bool} {i : ℕ} (in-p : to ≤
 
     among-hit : getD p i 0 ≡ x → Among p from to x true (i + 1)
     among-hit e = record { low = omega (arith, s .low); high = omega arith; is = s .is ∙ rw (one-more, eq-eqb x (getD p i 0) (sym e), or-true seen) }
-      where
-        or-true : (b : Bool) → (b || true) ≡ true
-        or-true true = refl
-        or-true false = refl
 
     among-more : (getD p i 0 ≡ x → ⊥) → Among p from to x seen (i + 1)
     among-more f = record { low = omega (arith, s .low); high = omega arith; is = s .is ∙ rw (one-more, ne-eqb x (getD p i 0) (λ e. f (sym e))) }
@@ -49,11 +45,7 @@ module _ {p : List ℕ} {from to x : ℕ} {seen : Bool} {i : ℕ} (in-p : to ≤
 
   pub among-end : to ≤ i → seen ≡ has x (take (to - from) (drop from p))
   unfolding has
-  among-end l = let e : to - i ≡ 0 = omega arith in rw (s .is, e) (or-false seen)
-    where
-      or-false : (b : Bool) → b ≡ (b || false)
-      or-false true = refl
-      or-false false = refl
+  among-end l = let e : to - i ≡ 0 = omega arith in rw (s .is, e, or-false seen)
 
 drop-take : (m n : ℕ) (l : List ℕ) → drop m (take n l) ≡ take (n - m) (drop m l)
 drop-take zero n l = let e : n - 0 ≡ n = omega arith in rw e

@@ -12,7 +12,6 @@ use borrow.Author.Tests.{lt-ltb, le-ltb, le-leb, lt-leb, eq-eqb, ne-eqb}
 use Rattle.numbers.specs.Size.{Size, finite, endless, sizeOf}
 use Rattle.numbers.proofs.size.Laws.{sized-finite, sized-endless}
 use Rattle.grammar.specs.Checks.{isEndless}
-pub use Rattle.numbers.proofs.Tests.{and-left, and-right}
 
 -- a sum and its bound, tested by a difference
 pub room : (a b l : ℕ) → b ≤ l → a ≤ l - b → leb (a + b) l ≡ true

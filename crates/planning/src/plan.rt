@@ -7,16 +7,6 @@ ghost use Rattle.grammar.specs.Kind.{spare};
 ghost use Rattle.grammar.specs.Nodes.{usedWords, kindIn, nodeWith, rowAt};
 ghost use Rattle.grammar.specs.Plan.{sizeIn, coded, weighed, rowed, AllWeighed};
 use grammar::kinds;
-use grammar::kinds::AGAIN;
-use grammar::kinds::BELOW;
-use grammar::kinds::CONS;
-use grammar::kinds::DEP;
-use grammar::kinds::EXCEPT;
-use grammar::kinds::FIX;
-use grammar::kinds::NATS;
-use grammar::kinds::OR;
-use grammar::kinds::POOL;
-use grammar::kinds::SHIFT;
 use grammar::kinds::Weighed;
 use grammar::refusal::Refusal;
 use grammar::refusal::Verdict;
@@ -55,16 +45,16 @@ fn row(table: &[u64], pool: &[u64], plan: &[u64], n: usize, kind: u64, a: u64, b
     ensures { λ r. ⌜ r ≡ weighed (kindIn kind) (nodeWith (now (table .entry)) (now (pool .entry)) n a b) (sizeIn (now (plan .entry))) ⌝ }
 {
     match kind {
-        BELOW => kinds::below::check(a),
-        NATS => kinds::nats::check(),
-        POOL => kinds::pool::check(pool, a as usize, b as usize),
-        SHIFT => kinds::shift::check(table, plan, n, a as usize, b),
-        OR => kinds::or::check(plan, n, a as usize, b as usize),
-        CONS => kinds::cons::check(plan, n, a as usize, b as usize),
-        DEP => kinds::dep::check(pool, plan, n, a as usize, b as usize),
-        EXCEPT => kinds::except::check(plan, n, a as usize, b),
-        FIX => kinds::fix::check(plan, n, a as usize),
-        AGAIN => kinds::again::check(table, n, a as usize),
+        kinds::BELOW => kinds::below::check(a),
+        kinds::NATS => kinds::nats::check(),
+        kinds::POOL => kinds::pool::check(pool, a as usize, b as usize),
+        kinds::SHIFT => kinds::shift::check(table, plan, n, a as usize, b),
+        kinds::OR => kinds::or::check(plan, n, a as usize, b as usize),
+        kinds::CONS => kinds::cons::check(plan, n, a as usize, b as usize),
+        kinds::DEP => kinds::dep::check(pool, plan, n, a as usize, b as usize),
+        kinds::EXCEPT => kinds::except::check(plan, n, a as usize, b),
+        kinds::FIX => kinds::fix::check(plan, n, a as usize),
+        kinds::AGAIN => kinds::again::check(table, n, a as usize),
         _ => Weighed::Fault(Refusal::Kind),
     }
 }

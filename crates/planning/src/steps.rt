@@ -9,16 +9,6 @@ ghost use Rattle.grammar.specs.Steps.{stepsOf};
 ghost use Rattle.grammar.specs.Plan.{sizeIn, Ready};
 ghost use Rattle.grammar.specs.Named.{Names};
 use grammar::kinds;
-use grammar::kinds::AGAIN;
-use grammar::kinds::BELOW;
-use grammar::kinds::CONS;
-use grammar::kinds::DEP;
-use grammar::kinds::EXCEPT;
-use grammar::kinds::FIX;
-use grammar::kinds::NATS;
-use grammar::kinds::OR;
-use grammar::kinds::POOL;
-use grammar::kinds::SHIFT;
 use grammar::named::Named;
 use grammar::named::none;
 use grammar::named::one;
@@ -34,16 +24,16 @@ pub fn steps_of(table: &[u64], pool: &[u64], plan: &[u64], n: usize, guarded: bo
     let a = table[3 * n + 1] as usize;
     let b = table[3 * n + 2] as usize;
     match kind {
-        BELOW => none(),
-        NATS => none(),
-        POOL => none(),
-        SHIFT => one(a),
-        OR => kinds::or::steps(a, b, guarded),
-        CONS => two(a, b),
-        DEP => kinds::dep::steps(plan, a, b),
-        EXCEPT => one(a),
-        FIX => one(a),
-        AGAIN => one(a),
+        kinds::BELOW => none(),
+        kinds::NATS => none(),
+        kinds::POOL => none(),
+        kinds::SHIFT => one(a),
+        kinds::OR => kinds::or::steps(a, b, guarded),
+        kinds::CONS => two(a, b),
+        kinds::DEP => kinds::dep::steps(plan, a, b),
+        kinds::EXCEPT => one(a),
+        kinds::FIX => one(a),
+        kinds::AGAIN => one(a),
         _ => none(),
     }
 }
@@ -53,16 +43,16 @@ pub fn skips(kind: u64) -> bool
     ensures { λ r. ⌜ ((a b : ℕ) (p : List ℕ) (z : ℕ → Size) → r ≡ kindIn kind .rule a b p z .skips) ⌝ }
 {
     match kind {
-        BELOW => false,
-        NATS => false,
-        POOL => false,
-        SHIFT => false,
-        OR => false,
-        CONS => false,
-        DEP => false,
-        EXCEPT => true,
-        FIX => false,
-        AGAIN => false,
+        kinds::BELOW => false,
+        kinds::NATS => false,
+        kinds::POOL => false,
+        kinds::SHIFT => false,
+        kinds::OR => false,
+        kinds::CONS => false,
+        kinds::DEP => false,
+        kinds::EXCEPT => true,
+        kinds::FIX => false,
+        kinds::AGAIN => false,
         _ => false,
     }
 }

@@ -21,9 +21,9 @@ use Rattle.numbers.proofs.size.Laws.{by-size}
 use Rattle.grammar.specs.Rule.{Rule}
 use Rattle.grammar.specs.Kind.{Kind, before}
 use Rattle.grammar.specs.Law.{Holds, Under}
-use Rattle.grammar.specs.Nodes.{unknown, kindIn}
+use Rattle.grammar.specs.Nodes.{kinds, unknown, kindIn}
 use Rattle.grammar.specs.Plan.{sizeIn, kindWord, aWord, bWord, nodeIn, ruleIn}
-use Rattle.grammar.proofs.Tests.{and-left, and-right}
+use Rattle.numbers.proofs.Tests.{and-left, and-right}
 use Rattle.grammar.proofs.Known.{Others, others-unknown}
 use Rattle.walk.specs.Plan.{Reading, Raised}
 
@@ -74,7 +74,7 @@ module _ {plan p : List ℕ} {i : ℕ} (r : Reading plan p i) where
   reads-one e = subst (λ (t : Rule). Under (r .walks .count) (t .steps true)) e (r .walks .good .lawful i (r .node) .inside)
 
   -- ---- no check of an unknown kind is passed
-  pub known : Others 10 (kindWord plan i) → ⊥
+  pub known : Others (length kinds) (kindWord plan i) → ⊥
   known f =
       let e : kindIn (kindWord plan i) ≡ unknown = others-unknown (kindWord plan i) f in
       let h = subst (λ (k : Kind). Holds (k .checks (nodeIn plan p (r .walks .count) i) (before (sizeIn plan) i))) e (r .walks .holds i (r .node)) in

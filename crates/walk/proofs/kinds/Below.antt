@@ -8,7 +8,7 @@ use borrow.Author.Tests.{leb-true}
 use Rattle.grammar.specs.Rule.{own}
 use Rattle.grammar.specs.Plan.{kindWord, aWord, ruleIn}
 use Rattle.grammar.specs.kinds.Below.{belowRule}
-use Rattle.grammar.proofs.Tests.{and-right}
+use Rattle.numbers.proofs.Tests.{and-right}
 use Rattle.walk.specs.Plan.{Reading, Visits}
 use Rattle.walk.proofs.Nodes.{rule-by, items-of, checks-by}
 

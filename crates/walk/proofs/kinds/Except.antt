@@ -12,7 +12,7 @@ use Rattle.grammar.specs.Rule.{part}
 use Rattle.grammar.specs.Kind.{before}
 use Rattle.grammar.specs.Plan.{sizeIn, kindWord, aWord, bWord, ruleIn}
 use Rattle.grammar.specs.kinds.Except.{exceptRule}
-use Rattle.grammar.proofs.Tests.{and-right}
+use Rattle.numbers.proofs.Tests.{and-right}
 use Rattle.walk.specs.Plan.{Reading, Visits}
 use Rattle.walk.proofs.Visit.{visited}
 use Rattle.walk.proofs.Nodes.{rule-by, items-of, checks-by}

@@ -12,7 +12,7 @@ use Rattle.numbers.specs.Size.{Below}
 use Rattle.grammar.specs.Rule.{own, Rule}
 use Rattle.grammar.specs.Plan.{kindWord, aWord, bWord, ruleIn}
 use Rattle.grammar.specs.kinds.Pool.{poolRule}
-use Rattle.grammar.proofs.Tests.{and-left, and-right}
+use Rattle.numbers.proofs.Tests.{and-left, and-right}
 use Rattle.grammar.proofs.Runs.{run-at}
 use Rattle.walk.specs.Plan.{Reading, Visits}
 use Rattle.walk.proofs.Visit.{visited}

@@ -8,6 +8,7 @@ use mathlib.Core.List.{List, [], _∷_}
 use Prim.Native.Nat.{ℕ, _^_, _≤_}
 use lib.Dec.{eqb, ltb}
 use borrow.Author.Tests.{leb-true, eqb-true}
+use Rattle.numbers.proofs.Tests.{or-true}
 use Rattle.grammar.specs.Rule.{part, done, reads}
 use Rattle.grammar.specs.Plan.{sizeIn, kindWord, aWord, bWord, ruleIn}
 use Rattle.grammar.specs.kinds.Shift.{shiftRule}
@@ -27,19 +28,15 @@ module _ {plan p : List ℕ} {i : ℕ} (r : Reading plan p i) (k : kindWord plan
   shift-raised up =
       let k = kindWord plan (aWord plan i) in
       let low : (eqb k 0 || eqb k 1) ≡ true → (k ≡ 0) ⊎ (k ≡ 1) = λ q.
-      ⊎-elim (λ s. inl (eqb-true k 0 s)) (λ s. inr (eqb-true k 1 s)) (or-says (eqb k 0) (eqb k 1) q) in
+      ⊎-elim (λ s. inl (eqb-true k 0 s)) (λ s. inr (eqb-true k 1 s)) (or-true (eqb k 0) (eqb k 1) q) in
       record {
         is = inr
             (⊎-elim (λ q. ⊎-elim (λ s. inl s) (λ s. inr (inl s)) (low q)) (λ q. inr (inr (eqb-true k 3 q)))
-            (or-says (eqb k 0 || eqb k 1) (eqb k 3) three));
+            (or-true (eqb k 0 || eqb k 1) (eqb k 3) three));
       }
     where
       three : (eqb (kindWord plan (aWord plan i)) 0 || eqb (kindWord plan (aWord plan i)) 1) || eqb (kindWord plan (aWord plan i)) 3 ≡ true
       three = checks-by r k .1 .1 .0
-
-      or-says : (a b : Bool) → (a || b) ≡ true → (a ≡ true) ⊎ (b ≡ true)
-      or-says true b e = inl refl
-      or-says false b e = inr e
 
   pub shift-rule : ruleIn plan p i ≡ shiftRule (sizeIn plan (aWord plan i)) (aWord plan i) (bWord plan i)
   shift-rule = rw shift-lower at (rule-by plan p i k)
