@@ -1,19 +1,17 @@
 // The workloads of bench/, over the proved library. Each line of standard input has a workload and how often it is done;
 // a sum of all its answers is printed. A workload is ten times the number of a grammar and the number of a task.
-mod draw;
 mod row;
 mod single;
-mod tables;
 
-use draw::mixed_all;
+use bench_tables::draw::mixed_all;
+use bench_tables::tables::MOST_POOL_WORDS;
+use bench_tables::tables::MOST_TABLE_WORDS;
+use bench_tables::tables::Shape;
+use bench_tables::tables::laid_out;
 use libc::STDIN_FILENO;
 use libc::STDOUT_FILENO;
 use lines::line::Line;
 use lines::line::numbers_at;
-use tables::MOST_POOL_WORDS;
-use tables::MOST_TABLE_WORDS;
-use tables::Shape;
-use tables::laid_out;
 
 const MOST_CELLS: usize = 65536;
 

@@ -1,9 +1,9 @@
 // Workloads on rows of short cases.
-use super::draw::drawn_below;
-use super::draw::mixed;
-use super::draw::word_at;
 use super::single::refused;
 use super::single::touch;
+use bench_tables::draw::drawn_below;
+use bench_tables::draw::mixed;
+use bench_tables::draw::word_at;
 use rows::Next;
 use rows::Row;
 

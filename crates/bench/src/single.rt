@@ -1,7 +1,7 @@
 // Workloads on one case at a time.
-use super::draw::drawn_below;
-use super::draw::mixed;
-use super::draw::word_at;
+use bench_tables::draw::drawn_below;
+use bench_tables::draw::mixed;
+use bench_tables::draw::word_at;
 use cases::Found;
 use cases::Written;
 use grammar::refusal::Refusal;

@@ -1,9 +1,9 @@
--- `bench::tables::agains` lays out 127 agains and their fixes.
+-- `bench_tables::tables::agains` lays out 127 agains and their fixes.
 -- Assumes nothing.
 use borrow.Author.Needs.{needs}
 use Prim.Native.Nat.{_-_, _≤_}
-use Rattle.bench.proofs.tables.agains.Statement.{statement}
-use Rattle.bench.proofs.tables.agains.Tie as tie
+use Rattle.bench_tables.proofs.tables.agains.Statement.{statement}
+use Rattle.bench_tables.proofs.tables.agains.Tie as tie
 
 abbrev Inv-loop : tie.InvT-loop
 Inv-loop table₀ i₀ table i = i ≤ 127

@@ -1,10 +1,10 @@
--- `bench::draw::mixed_all` goes word by word.
+-- `bench_tables::draw::mixed_all` goes word by word.
 -- Assumes nothing.
 use borrow.Author.Needs.{needs}
 use Prim.Native.Nat.{_-_, _≤_}
 use lib.ListN.{length}
-use Rattle.bench.proofs.draw.mixed_all.Statement.{statement}
-use Rattle.bench.proofs.draw.mixed_all.Tie as tie
+use Rattle.bench_tables.proofs.draw.mixed_all.Statement.{statement}
+use Rattle.bench_tables.proofs.draw.mixed_all.Tie as tie
 
 abbrev Inv-loop : tie.InvT-loop
 Inv-loop sum words all₀ i₀ i-end all i = i ≤ length words

@@ -1,9 +1,9 @@
--- `bench::tables::seconds` lays out 256 seconds.
+-- `bench_tables::tables::seconds` lays out 256 seconds.
 -- Assumes nothing.
 use borrow.Author.Needs.{needs}
 use Prim.Native.Nat.{_-_, _≤_}
-use Rattle.bench.proofs.tables.seconds.Statement.{statement}
-use Rattle.bench.proofs.tables.seconds.Tie as tie
+use Rattle.bench_tables.proofs.tables.seconds.Statement.{statement}
+use Rattle.bench_tables.proofs.tables.seconds.Tie as tie
 
 abbrev Inv-loop : tie.InvT-loop
 Inv-loop table pool₀ i₀ pool i = i ≤ 256

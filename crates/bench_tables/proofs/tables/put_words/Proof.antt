@@ -1,9 +1,9 @@
--- `bench::tables::put_words` goes word by word.
+-- `bench_tables::tables::put_words` goes word by word.
 -- Assumes nothing.
 use borrow.Author.Needs.{needs}
 use Prim.Native.Nat.{_-_, _≤_}
-use Rattle.bench.proofs.tables.put_words.Statement.{statement}
-use Rattle.bench.proofs.tables.put_words.Tie as tie
+use Rattle.bench_tables.proofs.tables.put_words.Statement.{statement}
+use Rattle.bench_tables.proofs.tables.put_words.Tie as tie
 
 abbrev Inv-loop : tie.InvT-loop
 Inv-loop pool₀ count i₀ pool i = i ≤ count

@@ -1,0 +1,3 @@
+// What the workloads of bench/ are made of: their grammars, and the numbers that they draw.
+pub mod draw;
+pub mod tables;
