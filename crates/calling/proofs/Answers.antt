@@ -80,7 +80,8 @@ module _ (s : State) (table pool line : List ℕ) where
   line-call f {size} e q = rw (not-false (s .known) f, q, part-old size line, e)
 
 -- ---- a lent buffer that a call wrote to, and one that it left
-end-done : (n : ℕ) (cs old : List ℕ) {count : ℕ} {last : List ℕ} → count ≡ length cs → last ≡ over cs old → old ≡ startWords 0 n → endText last count ≡ bytes "\n"
+end-done : (n : ℕ) (cs old : List ℕ) {count : ℕ} {last : List ℕ} → count ≡ length cs → last ≡ over cs old → old ≡ startWords 0 n → endText last count ≡ bytes
+    "\n"
 unfolding endText
 end-done n cs old size holds start = rw (holds, size, over-back cs old, start, start-kept n (length cs))
 
@@ -111,7 +112,8 @@ module _ {t p : List ℕ} {i : ℕ} {ws old last : List ℕ} {r : Rows.Row} (roo
     row-answer : writesRow t p i room ws ≡ r
     row-answer = sym (k .is ∙ ap (λ (m : ℕ). writesRow t p i m ws) (ap length start ∙ start-length 0 room))
 
-    pub row-done : {items count : ℕ} → r ≡ DoneRow items count → itemsText items ++ (cellsText count (take count last) ++ endText last count) ≡ wayText Writes t p i room ws
+    pub row-done : {items count : ℕ} → r ≡ DoneRow items count → itemsText items ++ (cellsText count (take count last) ++ endText last count) ≡ wayText Writes
+        t p i room ws
     unfolding wayText rowText
     row-done e =
         let cs = rowOf (rulesOf t p) i ws in
@@ -128,7 +130,8 @@ module _ {t p : List ℕ} {i : ℕ} {ws old last : List ℕ} {r : Rows.Row} (roo
     got-answer : readsRow t p i room ws ≡ r
     got-answer = sym (k .is ∙ ap (λ (m : ℕ). readsRow t p i m ws) long)
 
-    pub got-done : {items count : ℕ} → r ≡ DoneRow items count → itemsText items ++ (cellsText count (take items last) ++ endText last items) ≡ wayText Reads t p i room ws
+    pub got-done : {items count : ℕ} → r ≡ DoneRow items count → itemsText items ++ (cellsText count (take items last) ++ endText last items) ≡ wayText Reads
+        t p i room ws
     unfolding wayText rowText
     got-done e =
         let ns = gotten (gather (rulesOf t p) i (length old) ws) in
@@ -136,7 +139,12 @@ module _ {t p : List ℕ} {i : ℕ} {ws old last : List ℕ} {r : Rows.Row} (roo
 
     pub got-refused : {x : Refusal} {node item : ℕ} → r ≡ NotDone x node item → refusedItem x node item ++ endText last 0 ≡ wayText Reads t p i room ws
     unfolding wayText rowText
-    got-refused e = rw (got-answer, e, end-kept room (k .holds ∙ ap (λ (w : Rows.Row). Row.leaves w (gotten (gather (rulesOf t p) i (length old) ws)) old) e) start)
+    got-refused e = rw (
+      got-answer,
+      e,
+      end-kept room (k .holds ∙ ap (λ (w : Rows.Row). Row.leaves w (gotten (gather (rulesOf t p) i (length old) ws)) old) e)
+          start,
+    )
 
 -- ---- a reader that is asked again and again
 pub record Asking (t p : List ℕ) (i : ℕ) (row page : List ℕ) (used : ℕ) (now : List ℕ) (waits at : ℕ) : Type 0 where
@@ -150,11 +158,18 @@ pub ask-none : {t p : List ℕ} {i : ℕ} {row page : List ℕ} {used : ℕ} →
 unfolding asksText
 ask-none {row = row} = record { said = []; times = suc (length row); enough = omega arith; is = refl; so-far = none }
 
-module _ {t p : List ℕ} {i : ℕ} {row page now : List ℕ} {used waits at : ℕ} (s : Asking t p i row page used now waits at) {next : Stride} (e : next ≡ strideOf t p i row at) where
-  asks-step : (times : ℕ) → length row - at < times → {x : Next} → next .answer ≡ x → (f : ℕ) × (times ≡ suc f) × (asksBy times t p i row at ≡ onward x (asksBy f t p i row (next .at)))
+module _ {t p : List ℕ} {i : ℕ} {row page now : List ℕ} {used waits at : ℕ} (s : Asking t p i row page used now waits at) {next : Stride}
+    (e : next ≡ strideOf t p i row at) where
+  asks-step : (times : ℕ) → length row - at < times → {x : Next} → next .answer ≡ x → (f : ℕ) × (times ≡ suc f) ×
+      (asksBy times t p i row at ≡ onward x (asksBy f t p i row (next .at)))
   unfolding asksBy
   asks-step zero l q = absurd (omega arith)
-  asks-step (suc f) l q = (f, refl, rw (e) (ap (λ (x : Next). onward x (asksBy f t p i row (afterOf at (nextOf t p i row at)))) (sym (ap (λ (y : Stride). y .answer) e) ∙ q)))
+  asks-step (suc f) l q = (
+    f,
+    refl,
+    rw (e) (ap (λ (x : Next). onward x (asksBy f t p i row (afterOf at (nextOf t p i row at))))
+        (sym (ap (λ (y : Stride). y .answer) e) ∙ q)),
+  )
 
   pub nearer : {n k : ℕ} → next .answer ≡ Item n k → length row - next .at < length row - at
   nearer {n} {k} q =
@@ -163,7 +178,8 @@ module _ {t p : List ℕ} {i : ℕ} {row page now : List ℕ} {used waits at : �
       let to = ap (λ (x : Stride). x .at) e ∙ ap (afterOf at) is in
       omega arith
 
-  pub ask-more : {n k : ℕ} → next .answer ≡ Item n k → {last : List ℕ} {r : ℕ} → Puts (itemText n k) now waits last r → Asking t p i row page used last r (next .at)
+  pub ask-more : {n k : ℕ} → next .answer ≡ Item n k → {last : List ℕ} {r : ℕ} → Puts (itemText n k) now waits last r → Asking t p i row page used last r
+      (next .at)
   ask-more {n} {k} q g =
       let (f, less, text) = asks-step (s .times) (s .enough) q in
       record {
@@ -177,5 +193,6 @@ module _ {t p : List ℕ} {i : ℕ} {row page now : List ℕ} {used waits at : �
   pub ask-end : next .answer ≡ End → {last : List ℕ} {r : ℕ} → Puts (bytes "end\n") now waits last r → Puts (asksText t p i row) page used last r
   ask-end q g = let (f, less, text) = asks-step (s .times) (s .enough) q in told (sym (s .is ∙ ap (λ (y : List ℕ). s .said ++ y) text)) (s .so-far then g)
 
-  pub ask-refused : {x : Refusal} {k : ℕ} → next .answer ≡ NoNext x k → {last : List ℕ} {r : ℕ} → Puts (refusedLine x k) now waits last r → Puts (asksText t p i row) page used last r
+  pub ask-refused : {x : Refusal} {k : ℕ} → next .answer ≡ NoNext x k → {last : List ℕ} {r : ℕ} → Puts (refusedLine x k) now waits last r → Puts
+      (asksText t p i row) page used last r
   ask-refused q g = let (f, less, text) = asks-step (s .times) (s .enough) q in told (sym (s .is ∙ ap (λ (y : List ℕ). s .said ++ y) text)) (s .so-far then g)

@@ -85,7 +85,8 @@ end-none l = record { few = l; rest = refl }
 
 module _ {text : List ℕ} {at i : ℕ} (s : Ending text at i) where
   at-byte : i < length text → (q : Bool) → eqb (getD text i 0) 10 ≡ q → after text at ≡ i + cond q 1 (suc (lineSize (drop (suc i) text)))
-  at-byte l q e = s .rest ∙ ap (λ (xs : List ℕ). i + lineSize xs) (drop-cons text i 0 l) ∙ ap (λ (k : ℕ). i + k) (size-some (getD text i 0) (drop (suc i) text) q e)
+  at-byte l q e = s .rest ∙ ap (λ (xs : List ℕ). i + lineSize xs) (drop-cons text i 0 l) ∙ ap (λ (k : ℕ). i + k)
+      (size-some (getD text i 0) (drop (suc i) text) q e)
 
   pub end-lf : i < length text → getD text i 0 ≡ 10 → i + 1 ≡ after text at
   end-lf l e = sym (at-byte l true (eq-eqb (getD text i 0) 10 e))
@@ -113,10 +114,18 @@ abbrev Holds : State → ℕ → ℕ → Bool → ℕ → ℕ → Type 0
 Holds s at used known table pool = (s .at ≡ at) × (s .used ≡ used) × (s .known ≡ known) × (s .table ≡ table) × (s .pool ≡ pool)
 
 module _ {text : List ℕ} {at middle next : ℕ} (m : middle ≡ after text at) (x : next ≡ after text middle) {page : List ℕ} {used : ℕ} where
-  forgets : {table pool last : List ℕ} {waits : ℕ} {s : State} → tableAt text at ≡ nothing → Holds s next waits false 0 0 → Puts unreadableText page used last waits
+  forgets : {table pool last : List ℕ} {waits : ℕ} {s : State} → tableAt text at ≡ nothing → Holds s next waits false 0 0 → Puts unreadableText page used last
+      waits
       → Tables text at page used table pool last s
   unfolding knownOf
-  forgets e (to, waits, known, few, small) g = record { to = to ∙ x ∙ ap (after text) m; knows = rw known (sym e); puts = rw (e, waits) g; few = omega (arith, few); small = omega (arith, small) }
+  forgets e (to, waits, known, few, small) g = record {
+    to = to ∙ x ∙ ap (after text) m;
+    knows = rw known (sym e);
+    puts = rw (e, waits) g;
+    few = omega
+        (arith, few);
+    small = omega (arith, small);
+  }
 
   module _ {table tableLast : List ℕ} (wide : length table ≡ mostTableWords) {r : Line} (k : ReadLine text at table tableLast r) where
     pub table-none : r ≡ NoLine → {pool last : List ℕ} {waits : ℕ} {s : State} → Holds s next waits false 0 0 → Puts unreadableText page used last waits
@@ -138,8 +147,10 @@ module _ {text : List ℕ} {at middle next : ℕ} (m : middle ≡ after text at)
       table-both {count} {until} {few} {end} e f (to, waits, known, c, d) =
           let n = read-numbers k e in
           let o = read-numbers j f in
-          let u : within mostTableWords (lineAt text at) ≡ numbers (n .ns) until = ap (within mostTableWords) (n .is) ∙ within-room (n .ns) until (omega (arith, n .size, n .room, wide)) in
-          let v : within mostPoolWords (lineAt text (after text at)) ≡ numbers (o .ns) end = ap (λ (k : ℕ). within mostPoolWords (lineAt text k)) (sym m) ∙ ap (within mostPoolWords) (o .is) ∙ within-room (o .ns) end (omega (arith, o .size, o .room, deep)) in
+          let u : within mostTableWords (lineAt text at) ≡ numbers (n .ns) until = ap (within mostTableWords) (n .is) ∙ within-room (n .ns) until
+          (omega (arith, n .size, n .room, wide)) in
+          let v : within mostPoolWords (lineAt text (after text at)) ≡ numbers (o .ns) end = ap (λ (k : ℕ). within mostPoolWords (lineAt text k)) (sym m) ∙ ap
+          (within mostPoolWords) (o .is) ∙ within-room (o .ns) end (omega (arith, o .size, o .room, deep)) in
           let y : take count tableLast ≡ n .ns = front table (n .size) (n .leaves) in
           let z : take few poolLast ≡ o .ns = front pool (o .size) (o .leaves) in
           record {
@@ -160,7 +171,8 @@ module _ (text : List ℕ) (s : State) (l : s .at < length text) {next : ℕ} (n
     tabled : isTable text (s .at) ≡ b
     tabled = sym (e ∙ ap (λ (xs : List ℕ). same xs (bytes "table\n")) line-is)
 
-    pub turn-table : b ≡ true → {table pool page table' pool' page' : List ℕ} {r : State} → Tables text next page (s .used) table' pool' page' r → Turns text s table pool page table' pool' page' r
+    pub turn-table : b ≡ true → {table pool page table' pool' page' : List ℕ} {r : State} → Tables text next page (s .used) table' pool' page' r → Turns text
+        s table pool page table' pool' page' r
     unfolding saidAt nextAt nextKnown
     turn-table t {table} {pool} {page} {table'} {pool'} {page'} {r} k =
         let is : isTable text (s .at) ≡ true = tabled ∙ t in
@@ -175,7 +187,8 @@ module _ (text : List ℕ) (s : State) (l : s .at < length text) {next : ℕ} (n
           within = record { start = omega (arith, to, c); table = k .few; pool = k .small };
         }
 
-    pub turn-call : b ≡ false → {table pool page page' : List ℕ} {used : ℕ} → Puts (lineText (knownOf s table pool) (take (next - s .at) (drop (s .at) text))) page (s .used) page' used
+    pub turn-call : b ≡ false → {table pool page page' : List ℕ} {used : ℕ} → Puts (lineText (knownOf s table pool) (take (next - s .at) (drop (s .at) text)))
+        page (s .used) page' used
         → Within text s → {r : State} → Holds r next used (s .known) (s .table) (s .pool) → Turns text s table pool page table pool page' r
     unfolding saidAt nextAt nextKnown knownOf
     turn-call t {table} {pool} g w (to, waits, known, c, d) =
@@ -184,7 +197,12 @@ module _ (text : List ℕ) (s : State) (l : s .at < length text) {next : ℕ} (n
           to = rw is (to ∙ n);
           knows = rw (is, known, c, d);
           puts = rw is (rw waits (told (ap (lineText (knownOf s table pool)) line-is) g));
-          within = record { start = omega (arith, to, n, after-within text (s .at) (w .start)); table = omega (arith, c, w .table); pool = omega (arith, d, w .pool) };
+          within = record {
+            start = omega (arith, to, n, after-within text (s .at) (w .start));
+            table = omega (arith, c, w .table);
+            pool = omega
+                (arith, d, w .pool);
+          };
         }
 
 -- ---- an input, line by line
@@ -224,7 +242,8 @@ module _ {text page : List ℕ} {s : State} {table pool : List ℕ} (a : Answeri
     answer-less = omega (arith, t .to, next-past text (s .at) l)
 
     step : (times : ℕ) → length text - s .at < times
-        → (f : ℕ) × (times ≡ suc f) × (printedBy times text (s .at) (knownOf s table pool) ≡ saidAt text (s .at) (knownOf s table pool) ++ printedBy f text (r .at) (knownOf r table' pool'))
+        → (f : ℕ) × (times ≡ suc f) × (printedBy times text (s .at) (knownOf s table pool) ≡ saidAt text (s .at) (knownOf s table pool) ++ printedBy f text
+        (r .at) (knownOf r table' pool'))
     unfolding printedBy
     step zero h = absurd (omega arith)
     step (suc f) h =
@@ -256,9 +275,11 @@ module _ {text page : List ℕ} {s : State} {table pool : List ℕ} (a : Answeri
   unfolding printed
   answer-all {b} e f h =
       let y : readable text ≡ true = sym e ∙ not-false b f in
-      let all : printedBy (suc (length text)) text 0 nothing ≡ a .said = a .is ∙ ap (λ (xs : List ℕ). a .said ++ xs) (over (a .times) h) ∙ append-nil (a .said) in
+      let all : printedBy (suc (length text)) text 0 nothing ≡ a .said = a .is ∙ ap (λ (xs : List ℕ). a .said ++ xs) (over (a .times) h) ∙ append-nil
+      (a .said) in
       record { empty = a .empty; puts = rw (y, all) (a .so-far) }
 
-pub answer-not : (text : List ℕ) {b : Bool} → b ≡ readable text → not b ≡ true → {old page : List ℕ} {used waits : ℕ} → used ≡ 0 → Puts unreadableText old used page waits → Waits (printed text) page waits
+pub answer-not : (text : List ℕ) {b : Bool} → b ≡ readable text → not b ≡ true → {old page : List ℕ} {used waits : ℕ} → used ≡ 0 → Puts unreadableText old
+    used page waits → Waits (printed text) page waits
 unfolding printed
 answer-not text {b} e f {old} z g = let n : readable text ≡ false = sym e ∙ not-true b f in record { empty = old; puts = rw n (rw z at g) }

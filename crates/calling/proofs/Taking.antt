@@ -31,9 +31,11 @@ module _ {rest : List ℕ} {before : ℕ} (h : before ≤ 2) {old last : List �
   pub taken-none : r ≡ NoLine → Takes rest before old last Unreadable
   taken-none e = record { answers = by (fieldsOf rest) (read-unreadable k e .0); leaves = leaves' }
     where
-      many : (ns : List ℕ) (next : ℕ) (q : Bool) → leb (length ns) (length old) ≡ q → cond q (numbers ns next) unreadable ≡ unreadable → Unreadable ≡ takenBy before (numbers ns next)
+      many : (ns : List ℕ) (next : ℕ) (q : Bool) → leb (length ns) (length old) ≡ q → cond q (numbers ns next) unreadable ≡ unreadable → Unreadable ≡ takenBy
+          before (numbers ns next)
       many ns next true t f = absurd (readable-not (sym f))
-      many ns next false t f = rw (and-not (leb before (length ns)) (lt-leb (length ns) (before + mostRow) (omega (arith, leb-false (length ns) (length old) t))))
+      many ns next false t f = rw (and-not (leb before (length ns)) (lt-leb (length ns) (before + mostRow)
+          (omega (arith, leb-false (length ns) (length old) t))))
 
       by : (x : Reading) → within (length old) x ≡ unreadable → Unreadable ≡ takenBy before x
       by (numbers ns next) u = many ns next (leb (length ns) (length old)) refl u
@@ -48,12 +50,17 @@ module _ {rest : List ℕ} {before : ℕ} (h : before ≤ 2) {old last : List �
 
     pub taken-many : before + mostRow < count → Takes rest before old last Unreadable
     taken-many l =
-        record { answers = rw (n .is, and-not (leb before (length (n .ns))) (lt-leb (length (n .ns)) (before + mostRow) (omega (arith, n .size)))); leaves = leaves' }
+        record {
+          answers = rw (n .is, and-not (leb before (length (n .ns))) (lt-leb (length (n .ns)) (before + mostRow) (omega (arith, n .size))));
+          leaves =
+              leaves';
+        }
 
     pub taken-count : before ≤ count → count ≤ before + mostRow → Takes rest before old last (Count count)
     taken-count lo hi =
         record {
-          answers = rw (n .is, le-leb before (length (n .ns)) (omega (arith, n .size)), le-leb (length (n .ns)) (before + mostRow) (omega (arith, n .size))) (ap Count (sym (n .size)));
+          answers = rw (n .is, le-leb before (length (n .ns)) (omega (arith, n .size)), le-leb (length (n .ns)) (before + mostRow) (omega (arith, n .size)))
+              (ap Count (sym (n .size)));
           leaves = leaves';
         }
 
@@ -67,7 +74,8 @@ pub record Taking (rest : List ℕ) (before : ℕ) (old last : List ℕ) (count 
   pub hi : length ns ≤ before + mostRow
   pub leaves : last ≡ ns ++ drop (length ns) old
 
-counted : (before : ℕ) (ns : List ℕ) {count : ℕ} (a b : Bool) → leb before (length ns) ≡ a → leb (length ns) (before + mostRow) ≡ b → cond (a && b) (Count (length ns)) Unreadable ≡ Count count
+counted : (before : ℕ) (ns : List ℕ) {count : ℕ} (a b : Bool) → leb before (length ns) ≡ a → leb (length ns) (before + mostRow) ≡ b → cond (a && b)
+    (Count (length ns)) Unreadable ≡ Count count
     → (count ≡ length ns) × (before ≤ length ns) × (length ns ≤ before + mostRow)
 counted before ns {count} true true u v e = let s : length ns ≡ count = cc in (sym s, leb-true before (length ns) u, leb-true (length ns) (before + mostRow) v)
 counted before ns true false u v e = let z : _≡_ {A = ℕ} 0 1 = cc in absurd (omega arith)
@@ -76,7 +84,8 @@ counted before ns false b u v e = let z : _≡_ {A = ℕ} 0 1 = cc in absurd (om
 pub within-room : (ns : List ℕ) (next : ℕ) {room : ℕ} → length ns ≤ room → within room (numbers ns next) ≡ numbers ns next
 within-room ns next {room} l = rw (le-leb (length ns) room l)
 
-pub taking : {rest : List ℕ} {before : ℕ} {old last : List ℕ} {r : Taken} → before ≤ 2 → Takes rest before old last r → {count : ℕ} → r ≡ Count count → Taking rest before old last count
+pub taking : {rest : List ℕ} {before : ℕ} {old last : List ℕ} {r : Taken} → before ≤ 2 → Takes rest before old last r → {count : ℕ} → r ≡ Count count → Taking
+    rest before old last count
 taking {rest} {before} {old} {last} {r} h k {count} e = by (fieldsOf rest) refl (sym (k .answers) ∙ e) (k .leaves)
   where
     by : (x : Reading) → fieldsOf rest ≡ x → takenBy before x ≡ Count count → last ≡ stored old (within mostFields x) → Taking rest before old last count
@@ -90,7 +99,8 @@ module _ {rest old last : List ℕ} where
   pub lent-none : {r : Taken} → Takes rest 2 old last r → r ≡ Unreadable → TakesLent rest old last NotLent
   lent-none k e = record { answers = by (fieldsOf rest) (sym (k .answers) ∙ e); leaves = k .leaves }
     where
-      long : (i room : ℕ) (ns : List ℕ) (next : ℕ) (q : Bool) → leb (length ns) mostRow ≡ q → takenBy 2 (numbers (i ∷ room ∷ ns) next) ≡ Unreadable → NotLent ≡ lentBy (numbers (i ∷ room ∷ ns) next)
+      long : (i room : ℕ) (ns : List ℕ) (next : ℕ) (q : Bool) → leb (length ns) mostRow ≡ q → takenBy 2 (numbers (i ∷ room ∷ ns) next) ≡ Unreadable → NotLent
+          ≡ lentBy (numbers (i ∷ room ∷ ns) next)
       long i room ns next true t f =
           let g : takenBy 2 (numbers (i ∷ room ∷ ns) next) ≡ Count (length (i ∷ room ∷ ns)) =
           rw (le-leb 2 (length (i ∷ room ∷ ns)) (omega arith), le-leb (length (i ∷ room ∷ ns)) (2 + mostRow) (omega (arith, leb-true (length ns) mostRow t))) in
@@ -118,7 +128,8 @@ module _ {rest old last : List ℕ} where
         let there : room ≡ getD (f .ns ++ drop (length (f .ns)) old) 1 0 = q ∙ ap (λ (ws : List ℕ). getD ws 1 0) (f .leaves) in
         record { answers = over (f .ns) (f .next) (drop (length (f .ns)) old) (f .lo) (f .hi) (rw there at l) ∙ sym (ap lentBy (f .is)); leaves = k .leaves }
 
-    all : (ns : List ℕ) (next : ℕ) (d : List ℕ) {start room : ℕ} → 2 ≤ length ns → length ns ≤ 2 + mostRow → start ≡ getD (ns ++ d) 0 0 → room ≡ getD (ns ++ d) 1 0 → room ≤ mostRoom
+    all : (ns : List ℕ) (next : ℕ) (d : List ℕ) {start room : ℕ} → 2 ≤ length ns → length ns ≤ 2 + mostRow → start ≡ getD (ns ++ d) 0 0 → room ≡ getD
+        (ns ++ d) 1 0 → room ≤ mostRoom
         → Of start room (length ns) ≡ lentBy (numbers ns next)
     all [] next d lo hi o q l = absurd (omega arith)
     all (i ∷ []) next d lo hi o q l = absurd (omega arith)

@@ -65,7 +65,8 @@ pub fn answer(
     page: &mut [u8; PAGE_BYTES],
 ) -> usize
     requires { ⌜ (state .table ≤ length (now table)) × (state .pool ≤ length (now pool)) ⌝ }
-    ensures { λ r. ⌜ Puts (lineText (knownOf state (now (table .entry)) (now (pool .entry))) (now (line .entry))) (now (page .entry)) (state .used) (now (page .exit)) r ⌝ }
+    ensures { λ r. ⌜ Puts (lineText (knownOf state (now (table .entry)) (now (pool .entry))) (now (line .entry))) (now (page .entry)) (state .used)
+        (now (page .exit)) r ⌝ }
 {
     let used = state.used;
     if !state.known {

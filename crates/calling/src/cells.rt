@@ -34,7 +34,8 @@ pub fn answer(
     page: &mut [u8; PAGE_BYTES],
     used: usize,
 ) -> usize
-    ensures { λ r. ⌜ Puts (withCells (askText ask (now (table .entry)) (now (pool .entry))) (fieldsOf (now (rest .entry)))) (now (page .entry)) used (now (page .exit)) r ⌝ }
+    ensures { λ r. ⌜ Puts (withCells (askText ask (now (table .entry)) (now (pool .entry))) (fieldsOf (now (rest .entry)))) (now (page .entry)) used
+        (now (page .exit)) r ⌝ }
 {
     let Taken::Count(count) = take(rest, AFTER_START, fields) else {
         return unreadable(page, used);
@@ -55,7 +56,8 @@ fn lend(
     used: usize,
 ) -> usize
     requires { ⌜ (1 ≤ count) × (count ≤ length (now fields)) ⌝ }
-    ensures { λ r. ⌜ Puts (askText ask (now (table .entry)) (now (pool .entry)) start (take (count - 1) (drop 1 (now (fields .entry))))) (now (page .entry)) used (now (page .exit)) r ⌝ }
+    ensures { λ r. ⌜ Puts (askText ask (now (table .entry)) (now (pool .entry)) start (take (count - 1) (drop 1 (now (fields .entry))))) (now (page .entry))
+        used (now (page .exit)) r ⌝ }
 {
     call(
         ask,
@@ -93,7 +95,8 @@ fn read(
     page: &mut [u8; PAGE_BYTES],
     used: usize,
 ) -> usize
-    ensures { λ r. ⌜ Puts (readText (reads (now (table .entry)) (now (pool .entry)) start (now (cells .entry)))) (now (page .entry)) used (now (page .exit)) r ⌝ }
+    ensures { λ r. ⌜ Puts (readText (reads (now (table .entry)) (now (pool .entry)) start (now (cells .entry)))) (now (page .entry)) used (now (page .exit)) r
+        ⌝ }
 {
     match cases::read(table, pool, start, cells) {
         Found::Number(found) => number_line(page, used, found),

@@ -97,7 +97,8 @@ fn answer_line(
     page: &mut [u8; PAGE_BYTES],
 ) -> State
     requires { ⌜ Within (now text) state × (state .at < length (now text)) ⌝ }
-    ensures { λ r. ⌜ Turns (now (text .entry)) state (now (table .entry)) (now (pool .entry)) (now (page .entry)) (now (table .exit)) (now (pool .exit)) (now (page .exit)) r ⌝ }
+    ensures { λ r. ⌜ Turns (now (text .entry)) state (now (table .entry)) (now (pool .entry)) (now (page .entry)) (now (table .exit)) (now (pool .exit))
+        (now (page .exit)) r ⌝ }
 {
     let at = state.at;
     let next = line::after(text, at);

@@ -33,7 +33,8 @@ pub fn answer(
     page: &mut [u8; PAGE_BYTES],
     used: usize,
 ) -> usize
-    ensures { λ r. ⌜ Puts (withBuffer (wayText way (now (table .entry)) (now (pool .entry))) (fieldsOf (now (rest .entry)))) (now (page .entry)) used (now (page .exit)) r ⌝ }
+    ensures { λ r. ⌜ Puts (withBuffer (wayText way (now (table .entry)) (now (pool .entry))) (fieldsOf (now (rest .entry)))) (now (page .entry)) used
+        (now (page .exit)) r ⌝ }
 {
     let Lent::Of(start, room, count) = take_lent(rest, fields) else {
         return unreadable(page, used);
@@ -66,7 +67,8 @@ fn lend(
     used: usize,
 ) -> usize
     requires { ⌜ (2 ≤ count) × (count ≤ length (now fields)) × (room ≤ length (now buffer)) ⌝ }
-    ensures { λ r. ⌜ Puts (wayText way (now (table .entry)) (now (pool .entry)) start room (take (count - 2) (drop 2 (now (fields .entry))))) (now (page .entry)) used (now (page .exit)) r ⌝ }
+    ensures { λ r. ⌜ Puts (wayText way (now (table .entry)) (now (pool .entry)) start room (take (count - 2) (drop 2 (now (fields .entry)))))
+        (now (page .entry)) used (now (page .exit)) r ⌝ }
 {
     call(
         way,
@@ -90,7 +92,8 @@ fn call(
     page: &mut [u8; PAGE_BYTES],
     used: usize,
 ) -> usize
-    ensures { λ r. ⌜ Puts (wayText way (now (table .entry)) (now (pool .entry)) start (length (now (lent .entry))) (now (row .entry))) (now (page .entry)) used (now (page .exit)) r ⌝ }
+    ensures { λ r. ⌜ Puts (wayText way (now (table .entry)) (now (pool .entry)) start (length (now (lent .entry))) (now (row .entry))) (now (page .entry))
+        used (now (page .exit)) r ⌝ }
 {
     match way {
         Way::Write => write(table, pool, start, row, lent, page, used),
@@ -107,7 +110,8 @@ fn write(
     page: &mut [u8; PAGE_BYTES],
     used: usize,
 ) -> usize
-    ensures { λ r. ⌜ Puts (wayText Writes (now (table .entry)) (now (pool .entry)) start (length (now (cells .entry))) (now (numbers .entry))) (now (page .entry)) used (now (page .exit)) r ⌝ }
+    ensures { λ r. ⌜ Puts (wayText Writes (now (table .entry)) (now (pool .entry)) start (length (now (cells .entry))) (now (numbers .entry)))
+        (now (page .entry)) used (now (page .exit)) r ⌝ }
 {
     fill(cells);
     match rows::write_row(table, pool, start, numbers, cells) {
@@ -127,7 +131,8 @@ fn read(
     page: &mut [u8; PAGE_BYTES],
     used: usize,
 ) -> usize
-    ensures { λ r. ⌜ Puts (wayText Reads (now (table .entry)) (now (pool .entry)) start (length (now (numbers .entry))) (now (cells .entry))) (now (page .entry)) used (now (page .exit)) r ⌝ }
+    ensures { λ r. ⌜ Puts (wayText Reads (now (table .entry)) (now (pool .entry)) start (length (now (numbers .entry))) (now (cells .entry)))
+        (now (page .entry)) used (now (page .exit)) r ⌝ }
 {
     fill(numbers);
     match rows::read_row(table, pool, start, cells, numbers) {

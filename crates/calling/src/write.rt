@@ -66,7 +66,8 @@ fn call(
     page: &mut [u8; PAGE_BYTES],
     used: usize,
 ) -> usize
-    ensures { λ r. ⌜ Puts (caseText (now (table .entry)) (now (pool .entry)) start (length (now (cells .entry))) number) (now (page .entry)) used (now (page .exit)) r ⌝ }
+    ensures { λ r. ⌜ Puts (caseText (now (table .entry)) (now (pool .entry)) start (length (now (cells .entry))) number) (now (page .entry)) used
+        (now (page .exit)) r ⌝ }
 {
     fill(cells);
     match cases::write(table, pool, start, number, cells) {

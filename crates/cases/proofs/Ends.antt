@@ -50,7 +50,8 @@ module _ (t p : List ℕ) (a : verdict t p ≡ Accepted) where
   ranked i l = record {
     level = λ j s. held-le (Step true t p z) (leads true t p z) (decides true) (nodes t) (inside true) isExcept i j s;
     drop = λ e j s.
-        held-falls (Step true t p z) (leads true t p z) (decides true) (nodes t) (inside true) isExcept i j s e (λ q. no-except i (record { is = e; cycle = q })) l;
+        held-falls (Step true t p z) (leads true t p z) (decides true) (nodes t) (inside true) isExcept i j s e
+        (λ q. no-except i (record { is = e; cycle = q })) l;
     down = λ j s. rank-falls (Step false t p z) (leads false t p z) (decides false) (nodes t) (inside false) i j s (no-unguarded j);
   }
 

@@ -71,7 +71,8 @@ module _ (t p : List ℕ) {zs : List Size} (long : lengths t p ≡ true) (pass :
   accepted-means a =
       let u = unguarded-is table-checked in
       let x = except-is table-checked in
-      let none : Lowest (Unguarded t p (sizeAt zs)) 256 = ⊎-elim (lowest-256 u) (λ l. absurd (never a (verdict-9 _ l u))) (le-or-lt 256 (unguarded t p (sizeAt zs))) in
+      let none : Lowest (Unguarded t p (sizeAt zs)) 256 = ⊎-elim (lowest-256 u) (λ l. absurd (never a (verdict-9 _ l u)))
+      (le-or-lt 256 (unguarded t p (sizeAt zs))) in
       (none, ⊎-elim (lowest-256 x) (λ l. absurd (never a (verdict-10 _ l none x))) (le-or-lt 256 (exceptOnCycle t p (sizeAt zs))))
 
 -- ---- an accepted table

@@ -42,7 +42,8 @@ module _ (w n : ℕ) where
       by false = refl
 
   pub asked-small : n < 2 ^ 62 → ltb n w ≡ asked (sizeOf w) n
-  asked-small h = by-size (λ s. ltb n w ≡ asked s n) w (λ f. rw (lt-ltb n (2 ^ 62) h) (and-true (ltb n w))) (λ f. rw (lt-ltb n (2 ^ 62) h) (lt-ltb n w (omega arith)))
+  asked-small h = by-size (λ s. ltb n w ≡ asked s n) w (λ f. rw (lt-ltb n (2 ^ 62) h) (and-true (ltb n w)))
+      (λ f. rw (lt-ltb n (2 ^ 62) h) (lt-ltb n w (omega arith)))
     where
       and-true : (a : Bool) → a ≡ (a && true)
       and-true true = refl
@@ -50,7 +51,11 @@ module _ (w n : ℕ) where
 
 -- a number that passes the test
 pub was-asked : (s : Size) (n : ℕ) → asked s n ≡ true → Asked s n
-was-asked (finite m) n e = record { below = ltb-true n m (and-left (ltb n m) (ltb n (2 ^ 62)) e); small = ltb-true n (2 ^ 62) (and-right (ltb n m) (ltb n (2 ^ 62)) e) }
+was-asked (finite m) n e = record {
+  below = ltb-true n m (and-left (ltb n m) (ltb n (2 ^ 62)) e);
+  small = ltb-true n (2 ^ 62)
+      (and-right (ltb n m) (ltb n (2 ^ 62)) e);
+}
 was-asked endless n e = record { below = tt; small = ltb-true n (2 ^ 62) e }
 
 -- ---- what a walk hands back, as an answer
@@ -90,7 +95,8 @@ module _ {plan p : List ℕ} {i : ℕ} (h : Reading plan p i) (n room : ℕ) {b 
     pub visits-of : Visits plan p i n
     visits-of = record { walks = h .walks; node = h .node; below = subst (Below n) (sym (h .walks .good .sized i (h .node))) (may .below) }
 
-    pub decided-walk : {most : ℕ} (w : ℕ) {f : Fit} → most ≡ roomFor room → f ≡ outcome most (leftOf w) → leftOf w ≡ tallied most (walk (ruleIn plan p) depth 0 i n)
+    pub decided-walk : {most : ℕ} (w : ℕ) {f : Fit} → most ≡ roomFor room → f ≡ outcome most (leftOf w) → leftOf w ≡ tallied most
+        (walk (ruleIn plan p) depth 0 i n)
         → f ≡ fitted (ruleIn plan p) i n room
     unfolding fitted
     decided-walk w m e l = e ∙ rw (is-so, l, m)
@@ -112,11 +118,18 @@ over-part (c ∷ cs) (x ∷ old) (suc k) l = ap (λ (xs : List ℕ). c ∷ xs) (
 
 module _ {plan p : List ℕ} {i : ℕ} (h : Reading plan p i) (n : ℕ) {b : Bool} (a : b ≡ asked (sizeOf (getD plan (4 * i + 3) 0)) n) (old : List ℕ) where
   pub fits-12 : b ≡ false → FitOver (ruleIn plan p) i n old old (Not NoSuchNumber)
-  fits-12 e = record { is = decided-12 h n (length old) a e; long = refl; holds = λ k q. let z : _≡_ {A = ℕ} 0 1 = cc in absurd (omega arith); kept = λ _. refl }
+  fits-12 e = record {
+    is = decided-12 h n (length old) a e;
+    long = refl;
+    holds = λ k q. let z : _≡_ {A = ℕ} 0 1 = cc in absurd (omega arith);
+    kept = λ _.
+        refl;
+  }
 
   -- the front of the buffer, as long as a case may be, is lent on
   module _ (yes : b ≡ true) {most : ℕ} (w : ℕ) {f : Fit} (m : most ≡ roomFor (length old)) (e : f ≡ outcome most (leftOf w)) where
-    pub fits-walk : {part last : List ℕ} → Laid (length (take most old)) (walk (ruleIn plan p) depth 0 i n) (take most old) part (leftOf w) → last ≡ part ++ drop most old
+    pub fits-walk : {part last : List ℕ} → Laid (length (take most old)) (walk (ruleIn plan p) depth 0 i n) (take most old) part (leftOf w) → last ≡ part ++
+        drop most old
         → FitOver (ruleIn plan p) i n old last f
     fits-walk {part} {last} l g =
         let long : length (take most old) ≡ most = sym (lent-long old m) in
@@ -126,7 +139,11 @@ module _ {plan p : List ℕ} {i : ℕ} (h : Reading plan p i) (n : ℕ) {b : Boo
           long = rw g (simp length-append (omega (arith, l .long, long, length-drop most old, m)));
           holds = λ k q.
               let (rest, x, y) = cells-left most k (leftOf w) (sym e ∙ q) in
-              let few : length (cells (walk (ruleIn plan p) depth 0 i n)) ≤ most = omega (arith, tally-count most (walk (ruleIn plan p) depth 0 i n) (sym is ∙ x)) in
+              let few : length (cells (walk (ruleIn plan p) depth 0 i n)) ≤ most = omega (
+                arith,
+                tally-count most (walk (ruleIn plan p) depth 0 i n)
+                    (sym is ∙ x),
+              ) in
               g ∙ (ap (λ (xs : List ℕ). xs ++ drop most old) (l .holds rest x) ∙ over-part (cells (walk (ruleIn plan p) depth 0 i n)) old most few);
           kept = λ u. absurd (false≢true (sym u ∙ is-so h n (length old) a yes));
         }

@@ -35,7 +35,8 @@ prepared-length t p plan e = record { is = rw e; ready = λ a. absurd (refused-n
 told : {t p plan : List ℕ} {v w : Verdict} → AllWeighed t p plan v → v ≡ w → WeighedBy t p plan w
 told {t} {p} {plan} a e = rw e at (a .is)
 
-module _ (t p : List ℕ) {plan : List ℕ} (whole : length t ≡ 3 * nodes t) (some : 1 ≤ nodes t) (few : nodes t ≤ 256) (pooled : length p ≤ 4096) {v : Verdict} (a : AllWeighed t p plan v) where
+module _ (t p : List ℕ) {plan : List ℕ} (whole : length t ≡ 3 * nodes t) (some : 1 ≤ nodes t) (few : nodes t ≤ 256) (pooled : length p ≤ 4096) {v : Verdict}
+    (a : AllWeighed t p plan v) where
   long : lengths t p ≡ true
   long = rw (eq-eqb (length t) (3 * nodes t) whole, le-leb 1 (nodes t) some, le-leb (nodes t) 256 few, le-leb (length p) 4096 pooled)
 

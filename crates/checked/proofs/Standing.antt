@@ -32,7 +32,8 @@ use Rattle.checked.specs.declared.item.Item.the-variants.{Number, Not}
 
 take-few : (l : List ℕ) {k : ℕ} → k ≡ roomFor (length l) → take k l ≡ take most l
 take-few l {k} e =
-    ⊎-elim (λ u. let f : k ≡ length l = omega arith in rw f (take-length l ∙ sym (take-all most l u))) (λ u. let f : k ≡ most = omega arith in rw f) (le-or-lt (length l) most)
+    ⊎-elim (λ u. let f : k ≡ length l = omega arith in rw f (take-length l ∙ sym (take-all most l u))) (λ u. let f : k ≡ most = omega arith in rw f)
+    (le-or-lt (length l) most)
 
 -- the cells that are lent to the walk
 pub row-few : (cells : List ℕ) (at few : ℕ) → few ≡ roomFor (length cells - at) → length (take few (drop at cells)) ≤ most
@@ -48,7 +49,8 @@ module _ {plan p : List ℕ} {i : ℕ} (h : Reading plan p i) where
       let long : length (walk (ruleIn plan p) depth 0 i n) ≡ length (s .ws) = ap length (s .shows) ∙ length-map (s .ws) cell in
       omega (arith, some, long, ap length (s .stands), length-append (s .ws) rest)
 
-  module _ (cells : List ℕ) (at : ℕ) (in-cells : at ≤ length cells) (few : ℕ) (f : few ≡ roomFor (length cells - at)) {row : List ℕ} (lent : row ≡ take few (drop at cells))
+  module _ (cells : List ℕ) (at : ℕ) (in-cells : at ≤ length cells) (few : ℕ) (f : few ≡ roomFor (length cells - at)) {row : List ℕ}
+      (lent : row ≡ take few (drop at cells))
       {least used word : ℕ} (lo : 2 ^ 62 ≤ least) (t : Taken least (run (ruleIn plan p) depth 0 i) row 0 used word) where
     abbrev walked : Read
     walked = run (ruleIn plan p) depth 0 i most (drop at cells)
@@ -67,8 +69,14 @@ module _ {plan p : List ℕ} {i : ℕ} (h : Reading plan p i) where
       where
         by : Took least walked (drop at cells) most used word → MetBy walked cells at (Below word (at + used))
         by (exact s e) =
-            let g : walked ≡ read word (most - used) (drop (at + used) cells) = e ∙ rw after in
-            (most - used, g, l, omega (arith, some-read (drop at cells) g, length-drop (at + used) cells, length-drop at cells, within (omega arith)), within (omega arith))
+            let g : walked ≡ read word (most - used) (drop (at + used) cells) = e ∙ rw after in (
+              most - used,
+              g,
+              l,
+              omega (arith, some-read (drop at cells) g, length-drop (at + used) cells, length-drop at cells, within (omega arith)),
+              within
+                  (omega arith),
+            )
         by (large s m k e) = absurd (omega arith)
         by (stops s e) = absurd (omega arith)
 

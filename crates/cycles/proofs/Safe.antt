@@ -77,9 +77,11 @@ module _ {t p plan : List ℕ} where
     pass-end {count} l u = let e : n ≡ count = omega arith in rw e at s
 
   -- a node whose steps lead to safe nodes alone is safe
-  module _ {marks : List ℕ} (n : ℕ) (s : SafeMarks t p plan marks) {b : Bool} (asked : b ≡ every (isMarked marks) (stepsOf false t p (sizeIn plan) n)) (yes : b ≡ true) where
+  module _ {marks : List ℕ} (n : ℕ) (s : SafeMarks t p plan marks) {b : Bool} (asked : b ≡ every (isMarked marks) (stepsOf false t p (sizeIn plan) n))
+      (yes : b ≡ true) where
     stepped : (m : ℕ) → Step false t p (sizeIn plan) n m → Safe t p plan m
-    stepped m i = s .safe m (eqb-false (getD marks m 0) 0 (not-true (eqb (getD marks m 0) 0) (every-mem (isMarked marks) m (stepsOf false t p (sizeIn plan) n) (sym asked ∙ yes) i)))
+    stepped m i = s .safe m (eqb-false (getD marks m 0) 0 (not-true (eqb (getD marks m 0) 0) (every-mem (isMarked marks) m (stepsOf false t p (sizeIn plan) n)
+        (sym asked ∙ yes) i)))
 
     here : Safe t p plan n
     here = record { never = to-no-cycle (λ m i. stepped m i .never) }
@@ -106,7 +108,8 @@ module _ {t p plan : List ℕ} where
   pub settled-none : {marks : List ℕ} → SafeMarks t p plan marks → Settled t p plan marks 0
   settled-none s = record { le = omega arith; marked = s; all = λ k l. absurd (omega arith) }
 
-  pub settled-more : {marks next : List ℕ} {n : ℕ} → Settled t p plan marks n → n < nodes t → SafeMarks t p plan next → (getD next n 0 ≡ 0 → ⊥) → Settled t p plan next (n + 1)
+  pub settled-more : {marks next : List ℕ} {n : ℕ} → Settled t p plan marks n → n < nodes t → SafeMarks t p plan next → (getD next n 0 ≡ 0 → ⊥) → Settled t p
+      plan next (n + 1)
   settled-more {marks} {next} {n} s l m f = record { le = omega arith; marked = m; all = below-more _ n (s .all) (m .safe n f) }
 
   pub settled-all : {marks : List ℕ} {n : ℕ} → Ready t p plan → Settled t p plan marks n → nodes t ≤ n → (k : ℕ) → Unguarded t p (sizeIn plan) k → ⊥

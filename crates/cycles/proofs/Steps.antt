@@ -113,7 +113,8 @@ module _ {t p plan : List ℕ} (ready : Ready t p plan) (n : ℕ) (guarded : Boo
   pub run-in : (i : ℕ) → i < r .count → getD p (r .at + i) 0 < nodes t
   run-in i l =
       let u = under-right (nodes t) (second r) _ (under-right (nodes t) (first r) _ all-in) in
-      rw (← run-at p (r .at) (r .count) (names .inside) i l) (under-at (nodes t) (others p r) i (omega (arith, run-long p (r .at) (r .count) (names .inside))) u)
+      rw (← run-at p (r .at) (r .count) (names .inside) i l) (under-at (nodes t) (others p r) i (omega (arith, run-long p (r .at) (r .count) (names .inside)))
+      u)
 
   pub one-few : r .first ≡ true → r .a < 256
   one-few e = omega (arith, one-in e, ready .checked .few)
@@ -128,7 +129,8 @@ module _ {t p plan : List ℕ} (ready : Ready t p plan) (n : ℕ) (guarded : Boo
       → last ≡ marked old (stepsOf guarded t p (sizeIn plan) n)
   unfolding named
   marks-named old {one} {two} {last} a b c =
-      c ∙ (rw (b, a) (sym (marked-append (marked old (first r)) (second r) (others p r)) ∙ sym (marked-append old (first r) (second r ++ others p r))) ∙ ap (marked old) (names .is))
+      c ∙ (rw (b, a) (sym (marked-append (marked old (first r)) (second r) (others p r)) ∙ sym (marked-append old (first r) (second r ++ others p r))) ∙ ap
+      (marked old) (names .is))
 
   module _ (test : ℕ → Bool) {x : Bool} (e : x ≡ every test (first r)) where
     split : every test (first r ++ (second r ++ others p r)) ≡ (every test (first r) && (every test (second r) && every test (others p r)))

@@ -88,4 +88,5 @@ module _ {E : ℕ → ℕ → Type 0} {next : ℕ → List ℕ} {count : ℕ} (g
   }
     where
       on : (n m : ℕ) → 1 ≤ getD seen n 0 → E n m → 1 ≤ getD seen m 0
-      on n m h e = s .closed n m (s .above n (omega arith) (carry-from (λ (k : ℕ). k < count) (λ a b _ f. g .inside a b f) (λ a f. g .inside from a f) (s .sound n h)) h) e
+      on n m h e = s .closed n m (s .above n (omega arith) (carry-from (λ (k : ℕ). k < count) (λ a b _ f. g .inside a b f) (λ a f. g .inside from a f)
+          (s .sound n h)) h) e

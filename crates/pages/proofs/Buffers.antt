@@ -48,7 +48,8 @@ module _ {old now : List ℕ} {i : ℕ} (s : Filling old now i) where
       let l : i < length old = omega (arith, fill-same) in
       record {
         few = omega arith;
-        so-far = rw (s .so-far) (front-more (startWords 0 (length old)) old i w (omega (arith, start-length 0 (length old))) l (e ∙ let z : 0 + i ≡ i = omega arith in sym (rw z at (start-at 0 (length old) i l))));
+        so-far = rw (s .so-far) (front-more (startWords 0 (length old)) old i w (omega (arith, start-length 0 (length old))) l
+            (e ∙ let z : 0 + i ≡ i = omega arith in sym (rw z at (start-at 0 (length old) i l))));
       }
 
   pub fill-all : length now ≤ i → now ≡ startWords 0 (length old)
@@ -65,7 +66,8 @@ pub look-none : {buffer : List ℕ} {from : ℕ} → Looking buffer from from
 look-none = record { rest = refl }
 
 module _ {buffer : List ℕ} {from i : ℕ} (s : Looking buffer from i) where
-  at-word : i < length buffer → {b : Bool} → eqb (getD buffer i 0) (startWord i) ≡ b → changed from (drop from buffer) ≡ not b || changed (suc i) (drop (suc i) buffer)
+  at-word : i < length buffer → {b : Bool} → eqb (getD buffer i 0) (startWord i) ≡ b → changed from (drop from buffer) ≡ not b || changed (suc i)
+      (drop (suc i) buffer)
   unfolding changed
   at-word l e = s .rest ∙ ap (changed i) (drop-cons buffer i 0 l) ∙ ap (λ (b : Bool). not b || changed (suc i) (drop (suc i) buffer)) e
 

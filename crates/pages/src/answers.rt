@@ -79,7 +79,8 @@ pub fn listed_line(
     written: usize,
 ) -> usize
     requires { ⌜ written ≤ length (now buffer) ⌝ }
-    ensures { λ r. ⌜ Puts (cellsText cells (take written (now (buffer .entry))) ++ endText (now (buffer .entry)) written) (now (page .entry)) used (now (page .exit)) r ⌝ }
+    ensures { λ r. ⌜ Puts (cellsText cells (take written (now (buffer .entry))) ++ endText (now (buffer .entry)) written) (now (page .entry)) used
+        (now (page .exit)) r ⌝ }
 {
     let counted = put_number(page, used, cells as u64);
     let named = put_text(page, counted, b" cells:");
@@ -97,7 +98,8 @@ pub fn done_line(
     written: usize,
 ) -> usize
     requires { ⌜ written ≤ length (now buffer) ⌝ }
-    ensures { λ r. ⌜ Puts (itemsText items ++ (cellsText cells (take written (now (buffer .entry))) ++ endText (now (buffer .entry)) written)) (now (page .entry)) used (now (page .exit)) r ⌝ }
+    ensures { λ r. ⌜ Puts (itemsText items ++ (cellsText cells (take written (now (buffer .entry))) ++ endText (now (buffer .entry)) written))
+        (now (page .entry)) used (now (page .exit)) r ⌝ }
 {
     let counted = put_number(page, used, items as u64);
     let named = put_text(page, counted, b" items, ");

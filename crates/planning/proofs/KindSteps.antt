@@ -98,7 +98,8 @@ module _ {t p plan : List ℕ} (r : Ready t p plan) {n : ℕ} (h : n < nodes t) 
 
   pub dep-run : bOf t n + firsts plan (aOf t n) ≤ length p
   dep-run =
-      let w : bOf t n + count (sizeIn plan (aOf t n)) ≤ length p = leb-true (bOf t n + count (sizeIn plan (aOf t n))) (length p) (rw (at-dep .0) at (at-dep .1 .1 .0)) in
+      let w : bOf t n + count (sizeIn plan (aOf t n)) ≤ length p = leb-true (bOf t n + count (sizeIn plan (aOf t n))) (length p)
+      (rw (at-dep .0) at (at-dep .1 .1 .0)) in
       rw (← dep-count) w
 
   pub dep-steps : (guarded : Bool) → aOf t n ∷ seconds p (bOf t n) (sizeIn plan (aOf t n)) ≡ stepsOf guarded t p (sizeIn plan) n

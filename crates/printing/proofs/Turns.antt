@@ -27,7 +27,8 @@ use Rattle.printing.proofs.Outcomes.{accepted, table-words, pool-words,
 -- each page begins as the one before has left it, or anyhow: its rest is not printed
 pub data Turns (text t p : List ℕ) (i : ℕ) : ℕ → List ℕ → Type 0 where
   stop : {at : ℕ} {old last : List ℕ} → Answers text at t p i old last Nothing → Turns text t p i at []
-  turn : {at size next : ℕ} {old last rest : List ℕ} → Answers text at t p i old last (Line size next) → Turns text t p i next rest → Turns text t p i at (take size last ++ rest)
+  turn : {at size next : ℕ} {old last rest : List ℕ} → Answers text at t p i old last (Line size next) → Turns text t p i next rest → Turns text t p i at
+      (take size last ++ rest)
 
 -- a line that is no number, where the rest of the text is readable: there is no more line
 at-end : (text : List ℕ) (at : ℕ) {ns : List ℕ} → numbersFrom text at ≡ some ns → oneAt text at ≡ Not → ns ≡ []
@@ -57,7 +58,8 @@ module _ (text t p : List ℕ) (i : ℕ) where
       rw (g .all, x .line, turns-printed more (g .ms) (g .is))
 
 -- with the words that `opening` left in what was lent for them, as the program calls it
-pub cases-printed : {text tOld tLast pOld pLast old last : List ℕ} {r : Opened} (k : Opens text tOld tLast pOld pLast old last r) (c d i at : ℕ) (e : r ≡ Cases c d i at)
+pub cases-printed : {text tOld tLast pOld pLast old last : List ℕ} {r : Opened} (k : Opens text tOld tLast pOld pLast old last r) (c d i at : ℕ)
+    (e : r ≡ Cases c d i at)
     → {bytes : List ℕ} → Turns text (take c tLast) (take d pLast) i at bytes → bytes ≡ printed text
 unfolding printed told
 cases-printed {text} k c d i at e {bytes} h =
@@ -65,13 +67,15 @@ cases-printed {text} k c d i at e {bytes} h =
     let g : Turns text (a .t) (a .p) i at bytes = rw (table-words k c d i at e, pool-words k c d i at e) at h in
     turns-printed text (a .t) (a .p) i g (a .ns) (lines-of text (a .is) .rest) ∙ sym (rw (a .is, a .start))
 
-pub left-all : {text tOld tLast pOld pLast old last : List ℕ} {r : Opened} (k : Opens text tOld tLast pOld pLast old last r) (c d i at : ℕ) (e : r ≡ Cases c d i at)
+pub left-all : {text tOld tLast pOld pLast old last : List ℕ} {r : Opened} (k : Opens text tOld tLast pOld pLast old last r) (c d i at : ℕ)
+    (e : r ≡ Cases c d i at)
     → Left text (take c tLast) (take d pLast) i at
 left-all {text} k c d i at e =
     let a = accepted k c d i at e in
     rw (table-words k c d i at e, pool-words k c d i at e) (record { from = at; before = []; ns = a .ns; is = a .is; here = lines-of text (a .is) .rest })
 
-pub left-further : {text t p : List ℕ} {i at : ℕ} → Left text t p i at → {old last : List ℕ} {r : Said} → Answers text at t p i old last r → {size next : ℕ} → r ≡ Line size next → Left text t p i next
+pub left-further : {text t p : List ℕ} {i at : ℕ} → Left text t p i at → {old last : List ℕ} {r : Said} → Answers text at t p i old last r → {size next : ℕ} →
+    r ≡ Line size next → Left text t p i next
 left-further {text} {t} {p} {i} {at} l a {next = next} e =
     let x = line-printed a e in
     let w = one-within text at (x .one) in

@@ -79,7 +79,8 @@ pub fn opening(
     pool: &mut [u64; POOL_WORDS],
     page: &mut [u8; PAGE_BYTES],
 ) -> Opened
-    ensures { λ r. ⌜ Opens (now (text .entry)) (now (table .entry)) (now (table .exit)) (now (pool .entry)) (now (pool .exit)) (now (page .entry)) (now (page .exit)) r ⌝ }
+    ensures { λ r. ⌜ Opens (now (text .entry)) (now (table .entry)) (now (table .exit)) (now (pool .entry)) (now (pool .exit)) (now (page .entry))
+        (now (page .exit)) r ⌝ }
 {
     match read_input(text, table, pool) {
         Asked::Cases(table_count, pool_count, first, from) => {

@@ -46,7 +46,8 @@ counted : (new old : List ℕ) {last : List ℕ} {c : ℕ} → last ≡ over new
 counted new old e s f = rw (e, s) (over-front new old f)
 
 -- an answer and its words, said by equals
-pub said-by : {w : Row} (last : List ℕ) {xs ys : List ℕ} {m m' c c' : ℕ} → (w ≡ Done m' c') × (take c' last ≡ xs) → m' ≡ m → c' ≡ c → xs ≡ ys → (w ≡ Done m c) × (take c last ≡ ys)
+pub said-by : {w : Row} (last : List ℕ) {xs ys : List ℕ} {m m' c c' : ℕ} → (w ≡ Done m' c') × (take c' last ≡ xs) → m' ≡ m → c' ≡ c → xs ≡ ys → (w ≡ Done m c)
+    × (take c last ≡ ys)
 said-by last h e f s = (h .0 ∙ cc (e, f), ap (λ (k : ℕ). take k last) (sym f) ∙ h .1 ∙ s)
 
 module _ (t p : List ℕ) (a : verdict t p ≡ Accepted) (i : ℕ) (l : i < nodes t) where
@@ -62,7 +63,8 @@ module _ (t p : List ℕ) (a : verdict t p ≡ Accepted) (i : ℕ) (l : i < node
   reads-row-is room cs = rw (a, lt-ltb i (nodes t) l)
 
   -- ---- writing
-  pub wrote-cut : {ns : List ℕ} {css : List (List ℕ)} → Cut g i ns css → {old last : List ℕ} {w : Row} → length (joined css) ≤ length old → WroteRow t p i ns old last w
+  pub wrote-cut : {ns : List ℕ} {css : List (List ℕ)} → Cut g i ns css → {old last : List ℕ} {w : Row} → length (joined css) ≤ length old → WroteRow t p i ns
+      old last w
       → (w ≡ Done (length ns) (length (joined css))) × (take (length (joined css)) last ≡ joined css)
   wrote-cut {ns} {css} cut {old} {last} {w} f h =
       let (e, same) = turns-cut t p a i l (length old) cut f in
@@ -81,7 +83,8 @@ module _ (t p : List ℕ) (a : verdict t p ≡ Accepted) (i : ℕ) (l : i < node
       (css, cut, many, long, counted (joined css) old holds long (omega arith))
 
   -- ---- reading
-  pub got-cut : {ns : List ℕ} {css : List (List ℕ)} → Cut g i ns css → {old last : List ℕ} {r : Row} → length ns ≤ length old → GotRow t p i (joined css) old last r
+  pub got-cut : {ns : List ℕ} {css : List (List ℕ)} → Cut g i ns css → {old last : List ℕ} {r : Row} → length ns ≤ length old → GotRow t p i (joined css) old
+      last r
       → (r ≡ Done (length ns) (length (joined css))) × (take (length ns) last ≡ ns)
   got-cut {ns} {css} cut {old} {last} {r} f h =
       let e = gather-cut t p a i l (length old) cut f in
@@ -101,7 +104,8 @@ module _ (t p : List ℕ) (a : verdict t p ≡ Accepted) (i : ℕ) (l : i < node
       (css, subst (λ (xs : List ℕ). Cut g i xs css) (sym these) cut, same, ap length these ∙ many, used)
 
   pub got-stopped : {row old last : List ℕ} {r : Refusal} {item : ℕ} → GotRow t p i row old last (Refused r 0 item) → length row ≤ length old
-      → (ns : List ℕ) × (css : List (List ℕ)) × (rest : List ℕ) × Cut g i ns css × (row ≡ joined css ++ rest) × (item ≡ length ns) × (next g i rest ≡ Not-handed r 0)
+      → (ns : List ℕ) × (css : List (List ℕ)) × (rest : List ℕ) × Cut g i ns css × (row ≡ joined css ++ rest) × (item ≡ length ns) ×
+      (next g i rest ≡ Not-handed r 0)
   got-stopped {row} {old} {last} {r} {item} h f =
       cut-stopped t p a i l (length old) row item f (answered-stopped (length row) (gather g i (length old) row) (sym (h .is ∙ reads-row-is (length old) row)))
 
@@ -111,5 +115,6 @@ module _ (t p : List ℕ) (a : verdict t p ≡ Accepted) (i : ℕ) (l : i < node
     unfolding next
     asks-end e = rw many (asks-cut t p a i l row [] 0 End refl (λ to. refl) cut (sym e ∙ sym (append-nil (joined css))))
 
-    pub asks-refused : (rest : List ℕ) {r : Refusal} → row ≡ joined css ++ rest → next g i rest ≡ Not-handed r 0 → asks (strideOf t p i row) (suc m) 0 ≡ handOut 0 ns css (Not-handed r 0)
+    pub asks-refused : (rest : List ℕ) {r : Refusal} → row ≡ joined css ++ rest → next g i rest ≡ Not-handed r 0 → asks (strideOf t p i row) (suc m) 0 ≡
+        handOut 0 ns css (Not-handed r 0)
     asks-refused rest {r} e f = rw many (asks-cut t p a i l row rest 0 (Not-handed r 0) f (λ to. refl) cut e)

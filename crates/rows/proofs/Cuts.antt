@@ -59,7 +59,8 @@ front-number : (w : Read) {n : ℕ} {rest : List ℕ} → frontOf w ≡ number n
 unfolding frontOf
 front-number (read m q ds) {n} {rest} e = by (ltb m (2 ^ 62)) refl e
   where
-    by : (b : Bool) → ltb m (2 ^ 62) ≡ b → pick b (number m ds) (refused NumberTooLarge) ≡ number n rest → (q' : ℕ) × (read m q ds ≡ read n q' rest) × (n < 2 ^ 62)
+    by : (b : Bool) → ltb m (2 ^ 62) ≡ b → pick b (number m ds) (refused NumberTooLarge) ≡ number n rest → (q' : ℕ) × (read m q ds ≡ read n q' rest) ×
+        (n < 2 ^ 62)
     by true u v =
         let s : m ≡ n = cc in
         let s' : ds ≡ rest = cc in
@@ -82,7 +83,8 @@ after-stopped n (stopped x j) {r} {k} e =
     let s' : suc j ≡ k = cc in
     (j, ap (λ y. stopped y j) s, sym s')
 
-onward-all : (f : Front) (rest : List ℕ → Gathered) {ns : List ℕ} → Rows-read.onward f rest ≡ all ns → (n : ℕ) × (ds : List ℕ) × (ms : List ℕ) × (f ≡ number n ds) × (rest ds ≡ all ms) × (ns ≡ n ∷ ms)
+onward-all : (f : Front) (rest : List ℕ → Gathered) {ns : List ℕ} → Rows-read.onward f rest ≡ all ns → (n : ℕ) × (ds : List ℕ) × (ms : List ℕ) ×
+    (f ≡ number n ds) × (rest ds ≡ all ms) × (ns ≡ n ∷ ms)
 onward-all (number n ds) rest e = let (ms, u, v) = after-all n (rest ds) e in (n, ds, ms, refl, u, v)
 onward-all (refused r) rest e = let z : _≡_ {A = ℕ} 0 1 = cc in absurd (omega arith)
 
@@ -174,7 +176,8 @@ module _ (t p : List ℕ) (a : verdict t p ≡ Accepted) (i : ℕ) (l : i < node
   counted : (n : ℕ) (xs ys : List ℕ) → Item n (length (xs ++ ys) - length ys) ≡ Item n (length xs)
   counted n xs ys = let s : length (xs ++ ys) - length ys ≡ length xs = omega (arith, length-append xs ys) in rw s
 
-  next-case : (row : List ℕ) (at : ℕ) {n : ℕ} {cs : List ℕ} (rest : List ℕ) → Asked (g i .size) n → Case g i n cs → drop at row ≡ cs ++ rest → nextOf t p i row at ≡ Item n (length cs)
+  next-case : (row : List ℕ) (at : ℕ) {n : ℕ} {cs : List ℕ} (rest : List ℕ) → Asked (g i .size) n → Case g i n cs → drop at row ≡ cs ++ rest → nextOf t p i
+      row at ≡ Item n (length cs)
   next-case row at {n} {cs} rest q c e = next-is row at ∙ rw (e, next-some g i (cs ++ rest) (some-cells rest q c), front-case q c rest) (counted n cs rest)
 
   pub stride-case : {n : ℕ} {cs : List ℕ} → Asked (g i .size) n → Case g i n cs → (before rest : List ℕ)
@@ -196,7 +199,8 @@ module _ (t p : List ℕ) (a : verdict t p ≡ Accepted) (i : ℕ) (l : i < node
 
   -- ---- a row that is refused: the items before it are cut, and it stands at the front of the rest
   abbrev StoppedAt : List ℕ → Refusal → ℕ → Type 0
-  StoppedAt cs r k = (ns : List ℕ) × (css : List (List ℕ)) × (rest : List ℕ) × Cut g i ns css × (cs ≡ joined css ++ rest) × (k ≡ length ns) × (next g i rest ≡ Refused r 0)
+  StoppedAt cs r k = (ns : List ℕ) × (css : List (List ℕ)) × (rest : List ℕ) × Cut g i ns css × (cs ≡ joined css ++ rest) × (k ≡ length ns) ×
+      (next g i rest ≡ Refused r 0)
 
   stopped-by : (room : ℕ) (cs : List ℕ) {r : Refusal} {k : ℕ} → length cs ≤ suc room → 0 < length cs
       → ((ds : List ℕ) (j : ℕ) → length ds ≤ room → gather g i room ds ≡ stopped r j → StoppedAt ds r j)
@@ -221,7 +225,8 @@ module _ (t p : List ℕ) (a : verdict t p ≡ Accepted) (i : ℕ) (l : i < node
   cut-stopped zero (c ∷ cs) k f e = absurd (not-suc-le-zero f)
   cut-stopped (suc room) [] k f e = absurd (stopped-none (suc room) e)
   cut-stopped (suc room) (c ∷ cs) k f e =
-      stopped-by room (c ∷ cs) f (omega arith) (λ ds j l' h. cut-stopped room ds j l' h) (front g i (c ∷ cs)) refl (sym (gather-more g i room (c ∷ cs) (omega arith)) ∙ e)
+      stopped-by room (c ∷ cs) f (omega arith) (λ ds j l' h. cut-stopped room ds j l' h) (front g i (c ∷ cs)) refl
+      (sym (gather-more g i room (c ∷ cs) (omega arith)) ∙ e)
 
   -- ---- one cut
   pub cut-same : {ns ms : List ℕ} {css dss : List (List ℕ)} → Cut g i ns css → Cut g i ms dss → joined css ≡ joined dss → (ns ≡ ms) × (css ≡ dss)

@@ -81,7 +81,8 @@ module _ (g : ℕ → Rule) (i : ℕ) where
             many = omega (arith, length-append (h .ns) (n ∷ []), h .many);
             within = hi;
             fits = omega arith;
-            rest = h .rest ∙ rw (s, gather-more (room - (items + 1)) (drop at cells) some, e) (since-after (h .ns) n (gather g i (room - (items + 1)) (drop next cells)));
+            rest = h .rest ∙ rw (s, gather-more (room - (items + 1)) (drop at cells) some, e) (since-after (h .ns) n
+                (gather g i (room - (items + 1)) (drop next cells)));
           }
 
       -- no number is stored: 14, or the item's own refusal

@@ -106,7 +106,8 @@ module _ (g : ℕ → Rule) (i : ℕ) where
     pub laying-done : length ns ≤ j → RowOver g i ns old now (Done j used)
     laying-done l = record { is = tallying-done (h .tally) l; long = laying-long; holds = λ m c x. h .holds ∙ rw (take-all j ns l) }
 
-    module _ {part last : List ℕ} (l : j < length ns) (p : part ≡ take (length now - used) (drop used now)) {f : Fit} (e : FitOver g i (getD ns j 0) part last f) where
+    module _ {part last : List ℕ} (l : j < length ns) (p : part ≡ take (length now - used) (drop used now)) {f : Fit}
+        (e : FitOver g i (getD ns j 0) part last f) where
       part-long : length part ≡ length now - used
       part-long = ap length (p ∙ part-old used now) ∙ length-drop used now
 
@@ -123,7 +124,18 @@ module _ (g : ℕ → Rule) (i : ℕ) where
       unfolding after
       after-long =
           let q : part ≡ drop used now = p ∙ part-old used now in
-          omega (arith, laying-long, e .long, ap length q, length-drop used now, length-take used now, length-append (take used now) (last ++ drop (length now - used) (drop used now)), length-append last (drop (length now - used) (drop used now)), ap length (part-rest used now))
+          omega (
+            arith,
+            laying-long,
+            e .long,
+            ap length q,
+            length-drop used now,
+            length-take used now,
+            length-append (take used now)
+                (last ++ drop (length now - used) (drop used now)),
+            length-append last (drop (length now - used) (drop used now)),
+            ap length (part-rest used now),
+          )
 
       pub laying-more : {k : ℕ} → f ≡ Cells k → Laying ns old (take used now ++ (last ++ drop (length now - used) (drop used now))) (j + 1) (used + k)
       laying-more {k} q =
@@ -137,14 +149,21 @@ module _ (g : ℕ → Rule) (i : ℕ) where
 
       pub laying-stops : {r : Refusal} → f ≡ Not r → RowOver g i ns old (take used now ++ (last ++ drop (length now - used) (drop used now))) (Refused r 0 j)
       unfolding after
-      laying-stops q = record { is = tallying-stops (h .tally) l fit-is q; long = after-long; holds = λ m c x. let z : _≡_ {A = ℕ} 0 1 = cc in absurd (omega arith) }
+      laying-stops q = record {
+        is = tallying-stops (h .tally) l fit-is q;
+        long = after-long;
+        holds = λ m c x. let z : _≡_ {A = ℕ} 0 1 = cc in absurd
+            (omega arith);
+      }
 
   -- ---- a row that is done
-  pub onward-done : (f : Fit) (rest : ℕ → Row) {m c : ℕ} → onward f rest ≡ Done m c → (k : ℕ) × (items : ℕ) × (used : ℕ) × (f ≡ Cells k) × (rest k ≡ Done items used) × (m ≡ 1 + items) × (c ≡ k + used)
+  pub onward-done : (f : Fit) (rest : ℕ → Row) {m c : ℕ} → onward f rest ≡ Done m c → (k : ℕ) × (items : ℕ) × (used : ℕ) × (f ≡ Cells k) ×
+      (rest k ≡ Done items used) × (m ≡ 1 + items) × (c ≡ k + used)
   onward-done (Not r) rest e = let z : _≡_ {A = ℕ} 0 1 = cc in absurd (omega arith)
   onward-done (Cells k) rest {m} {c} e = by (rest k) refl e
     where
-      by : (x : Row) → rest k ≡ x → later 1 k x ≡ Done m c → (k' : ℕ) × (items : ℕ) × (used : ℕ) × (Cells k ≡ Cells k') × (rest k' ≡ Done items used) × (m ≡ 1 + items) × (c ≡ k' + used)
+      by : (x : Row) → rest k ≡ x → later 1 k x ≡ Done m c → (k' : ℕ) × (items : ℕ) × (used : ℕ) × (Cells k ≡ Cells k') × (rest k' ≡ Done items used) ×
+          (m ≡ 1 + items) × (c ≡ k' + used)
       by (Done items used) u v = let s : 1 + items ≡ m = cc in let s' : k + used ≡ c = cc in (k, items, used, refl, u, sym s, sym s')
       by (Refused r n item) u v = let z : _≡_ {A = ℕ} 0 1 = cc in absurd (omega arith)
 

@@ -111,7 +111,8 @@ impl<'a> Reader<'a> {
     pub fn next(&mut self, table: &[u64], pool: &[u64], start: usize) -> Next
         ensures { λ n. ⌜ (n ≡ nextOf (now (table .entry)) (now (pool .entry)) start (now (now (self .entry) .row)) (now (self .entry) .at))
             × (now (self .exit) .row ≡ now (self .entry) .row)
-            × (now (self .exit) .at ≡ afterOf (now (self .entry) .at) (nextOf (now (table .entry)) (now (pool .entry)) start (now (now (self .entry) .row)) (now (self .entry) .at))) ⌝ }
+            × (now (self .exit) .at ≡ afterOf (now (self .entry) .at) (nextOf (now (table .entry)) (now (pool .entry)) start (now (now (self .entry) .row))
+            (now (self .entry) .at))) ⌝ }
     {
         let at = self.at;
         let s = stride_at(table, pool, start, self.row, at);

@@ -79,7 +79,8 @@ fn settle_numbers(
     requires { ⌜ Reading (now plan) (now pool) start ⌝ }
     requires { ⌜ Gathers (gather (ruleIn (now plan) (now pool)) start (length (now numbers)) (now cells)) ⌝ }
     requires { ⌜ Kept (gotten (gather (ruleIn (now plan) (now pool)) start (length (now numbers)) (now cells))) (now kept) count (length (now numbers)) ⌝ }
-    ensures { λ _. ⌜ now (numbers .exit) ≡ over (gotten (gather (ruleIn (now (plan .entry)) (now (pool .entry))) start (length (now (numbers .entry))) (now (cells .entry)))) (now (numbers .entry)) ⌝ }
+    ensures { λ _. ⌜ now (numbers .exit) ≡ over (gotten (gather (ruleIn (now (plan .entry)) (now (pool .entry))) start (length (now (numbers .entry)))
+        (now (cells .entry)))) (now (numbers .entry)) ⌝ }
 {
     if count <= kept.len() {
         copy(kept, count, numbers);

@@ -52,7 +52,8 @@ module _ (z : ℕ → Size) (count : ℕ) (g : ℕ → Rule) where
       → run g d up i (length cs + q) (cs ++ rest) ≡ read n q rest
 
   module _ (d : ℕ) (ih : Backs d) where
-    tree-back : (t : Tree) (xs : List ℕ) → Under count xs → Names z xs t → (w : Path z t) (up : ℕ) (cs : List ℕ) → shown (walk g d) up (itemsOf z t w) ≡ map cell cs → (q : ℕ) (rest : List ℕ)
+    tree-back : (t : Tree) (xs : List ℕ) → Under count xs → Names z xs t → (w : Path z t) (up : ℕ) (cs : List ℕ) → shown (walk g d) up (itemsOf z t w) ≡ map
+        cell cs → (q : ℕ) (rest : List ℕ)
         → follow (run g d) up t (length cs + q) (cs ++ rest) ≡ read (endOf z t w) q rest
     unfolding shown follow cellOf
     tree-back (done n) xs u o w up cs e q rest = rw (nil-cells cs e, zero-add q)
@@ -62,7 +63,12 @@ module _ (z : ℕ → Size) (count : ℕ) (g : ℕ → Rule) where
         rw (s .2, suc-add, le-leb up (w .0 + up) (omega arith), add-sub-cancel (w .0) up) (tree-back (f (w .0)) xs u (o (w .0)) (w .1) 0 (s .0) (s .1) q rest)
     tree-back (reads p k f) xs u o w up cs e q rest =
         let s = split-cells (walk g d (up + k) p (w .0)) (shown (walk g d) 0 (itemsOf z (f (w .0)) (w .2))) cs e in
-        rw (long-both (s .0) (s .1) q (s .4), both-then (s .0) (s .1) rest (s .4), ih (up + k) p (w .0) (under-mem count xs u p (o .0)) (w .1) (s .0) (s .2) (length (s .1) + q) (s .1 ++ rest))
+        rw (
+          long-both (s .0) (s .1) q (s .4),
+          both-then (s .0) (s .1) rest (s .4),
+          ih (up + k) p (w .0) (under-mem count xs u p (o .0)) (w .1) (s .0) (s .2)
+              (length (s .1) + q) (s .1 ++ rest),
+        )
         (tree-back (f (w .0)) xs u (o .1 (w .0) (w .1)) (w .2) 0 (s .1) (s .3) q rest)
 
   module _ (good : Good z count g) where
@@ -72,4 +78,5 @@ module _ (z : ℕ → Size) (count : ℕ) (g : ℕ → Rule) where
     back (suc d) up i n l h cs e q rest =
         let r = good .lawful i l in
         let s = r .writes n (subst (Below n) (good .sized i l) h) in
-        tree-back d (back d) (g i .tree) (g i .steps true) (r .inside) (r .names) (s .path) up cs (ap (shown (walk g d) up) (s .passes) ∙ e) q rest ∙ ap (λ (m : ℕ). read m q rest) (s .ends)
+        tree-back d (back d) (g i .tree) (g i .steps true) (r .inside) (r .names) (s .path) up cs (ap (shown (walk g d) up) (s .passes) ∙ e) q rest ∙ ap
+        (λ (m : ℕ). read m q rest) (s .ends)

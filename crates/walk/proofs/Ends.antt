@@ -58,11 +58,13 @@ path-parts z xs (takes f) o w = path-parts z xs (f (w .0)) (o (w .0)) (w .1)
 path-parts z xs (reads p k f) o w = ((o .0, w .1), path-parts z xs (f (w .0)) (o .1 (w .0) (w .1)) (w .2))
 
 -- the parts of a visit: named, and at numbers below their sizes
-pub parts-of : (z : ℕ → Size) (count : ℕ) (r : Rule) → Lawful z count r → (n : ℕ) → Below n (r .size) → Each (λ p m. List·Memᴰ p (r .steps true) × Below m (z p)) (r .items n)
+pub parts-of : (z : ℕ → Size) (count : ℕ) (r : Rule) → Lawful z count r → (n : ℕ) → Below n (r .size) → Each
+    (λ p m. List·Memᴰ p (r .steps true) × Below m (z p)) (r .items n)
 parts-of z count r l n h = let s = l .writes n h in subst (Each _) (s .passes) (path-parts z (r .steps true) (r .tree) (l .names) (s .path))
 
 -- ---- a visit meets something
-shown-some : (go : ℕ → ℕ → ℕ → List Event) (z : ℕ → Size) (t : Tree) → Meets t → (w : Path z t) (up : ℕ) → Each (λ p m. (u : ℕ) → 0 < length (go u p m)) (itemsOf z t w) → 0 < length (shown go up (itemsOf z t w))
+shown-some : (go : ℕ → ℕ → ℕ → List Event) (z : ℕ → Size) (t : Tree) → Meets t → (w : Path z t) (up : ℕ) → Each (λ p m. (u : ℕ) → 0 < length (go u p m))
+    (itemsOf z t w) → 0 < length (shown go up (itemsOf z t w))
 unfolding shown
 shown-some go z (done n) s w up h = absurd s
 shown-some go z fails s w up h = absurd w
@@ -76,12 +78,14 @@ walk-some z count g good (suc d) i n l h up =
     let r = good .lawful i l in
     let s = r .writes n (subst (Below n) (good .sized i l) h) in
     let parts = path-parts z (g i .steps true) (g i .tree) (r .names) (s .path) in
-    let below = each-two (λ p m a b. walk-some z count g good d p m (under-mem count (g i .steps true) (r .inside) p (a .0)) (a .1)) (itemsOf z (g i .tree) (s .path)) parts parts in
+    let below = each-two (λ p m a b. walk-some z count g good d p m (under-mem count (g i .steps true) (r .inside) p (a .0)) (a .1))
+    (itemsOf z (g i .tree) (s .path)) parts parts in
     rw (← s .passes) (shown-some (walk g d) z (g i .tree) (r .meets) (s .path) up below)
 
 -- ---- depth enough
 module _ (g : ℕ → Rule) where
-  shown-more : (go go' : ℕ → ℕ → ℕ → List Event) → ((up p m : ℕ) → Whole (go up p m) → Whole (go' up p m)) → (up : ℕ) (is : List Item) → Whole (shown go up is) → Whole (shown go' up is)
+  shown-more : (go go' : ℕ → ℕ → ℕ → List Event) → ((up p m : ℕ) → Whole (go up p m) → Whole (go' up p m)) → (up : ℕ) (is : List Item) → Whole
+      (shown go up is) → Whole (shown go' up is)
   unfolding shown
   shown-more go go' f up [] w = tt
   shown-more go go' f up (own c ∷ is) w = shown-more go go' f 0 is w
@@ -107,7 +111,11 @@ module _ (g : ℕ → Rule) where
   shown-ended (part p m k ∷ is) e =
       let a = e .0 in
       let r = shown-ended is (e .1) in
-      ⊎-elim (λ l. (r .0, λ up. whole-both (walk g (r .0) (up + k) p m) (shown (walk g (r .0)) 0 is) (deeper (a .depth) (r .0) l (up + k) p m (a .whole (up + k))) (r .1 0)))
+      ⊎-elim (λ l. (
+        r .0,
+        λ up. whole-both (walk g (r .0) (up + k) p m) (shown (walk g (r .0)) 0 is) (deeper (a .depth) (r .0) l (up + k) p m
+            (a .whole (up + k))) (r .1 0),
+      ))
       (λ l. (
         a .depth,
         λ up. whole-both (walk g (a .depth) (up + k) p m) (shown (walk g (a .depth)) 0 is) (a .whole (up + k))

@@ -32,11 +32,18 @@ map-both (c ∷ ws) vs = ap (λ (es : List Event). cell c ∷ es) (map-both ws v
 spelt-none : (q : ℕ) (cs : List ℕ) → Spelt [] q cs q cs
 spelt-none q cs = record { ws = []; shows = refl; stands = refl; room = omega arith }
 
-spelt-cell : (c off : ℕ) {es : List Event} {q q' : ℕ} {cs rest : List ℕ} → leb off c ≡ true → Spelt es q cs q' rest → Spelt (cell (c - off + off) ∷ es) (suc q) (c ∷ cs) q' rest
+spelt-cell : (c off : ℕ) {es : List Event} {q q' : ℕ} {cs rest : List ℕ} → leb off c ≡ true → Spelt es q cs q' rest → Spelt (cell (c - off + off) ∷ es)
+    (suc q) (c ∷ cs) q' rest
 spelt-cell c off {es} t s =
     let l = leb-true off c t in
     let e : c - off + off ≡ c = omega arith in
-    record { ws = c ∷ s .ws; shows = rw e (ap (λ (l : List Event). cell c ∷ l) (s .shows)); stands = ap (λ (l : List ℕ). c ∷ l) (s .stands); room = omega (arith, s .room) }
+    record {
+      ws = c ∷ s .ws;
+      shows = rw e (ap (λ (l : List Event). cell c ∷ l) (s .shows));
+      stands = ap (λ (l : List ℕ). c ∷ l) (s .stands);
+      room = omega
+          (arith, s .room);
+    }
 
 spelt-both : {xs ys : List Event} {q q' q'' : ℕ} {cs ds rest : List ℕ} → Spelt xs q cs q' ds → Spelt ys q' ds q'' rest → Spelt (xs ++ ys) q cs q'' rest
 spelt-both {xs} {ys} s t = record {
@@ -61,12 +68,14 @@ module _ (z : ℕ → Size) (count : ℕ) (g : ℕ → Rule) where
     Along off t q cs (read m q' rest) = (w : Path z t) × (endOf z t w ≡ m) × Spelt (shown (walk g d) off (itemsOf z t w)) q cs q' rest
     Along off t q cs (wrong r) = Unit {0}
 
-    after-cell : (off : ℕ) (f : ℕ → Tree) (c q : ℕ) (cs : List ℕ) (r : Read) → leb off c ≡ true → Along 0 (f (c - off)) q cs r → Along off (takes f) (suc q) (c ∷ cs) r
+    after-cell : (off : ℕ) (f : ℕ → Tree) (c q : ℕ) (cs : List ℕ) (r : Read) → leb off c ≡ true → Along 0 (f (c - off)) q cs r → Along off (takes f) (suc q)
+        (c ∷ cs) r
     unfolding shown
     after-cell off f c q cs (read m q' rest) t h = ((c - off, h .0), h .1, spelt-cell c off t (h .2))
     after-cell off f c q cs (wrong r) t h = tt
 
-    after-part : (off p k : ℕ) (f : ℕ → Tree) (m : ℕ) {q q' : ℕ} {cs ds : List ℕ} (r : Read) → Below m (z p) → Spelt (walk g d (off + k) p m) q cs q' ds → Along 0 (f m) q' ds r
+    after-part : (off p k : ℕ) (f : ℕ → Tree) (m : ℕ) {q q' : ℕ} {cs ds : List ℕ} (r : Read) → Below m (z p) → Spelt (walk g d (off + k) p m) q cs q' ds →
+        Along 0 (f m) q' ds r
         → Along off (reads p k f) q cs r
     unfolding shown
     after-part off p k f m (read n q'' rest) lt s h = ((m, lt, h .0), h .1, spelt-both s (h .2))
@@ -87,7 +96,8 @@ module _ (z : ℕ → Size) (count : ℕ) (g : ℕ → Rule) where
     tree-only (reads p k f) xs u o off q cs =
         by (run g d (off + k) p q cs) (ih (off + k) p (under-mem count xs u p (o .0)) q cs) (λ m lt. tree-only (f m) xs u (o .1 m lt) 0)
       where
-        by : (r : Read) → Right (z p) (walk g d (off + k) p) q cs r → ((m : ℕ) → Below m (z p) → (q' : ℕ) (ds : List ℕ) → Along 0 (f m) q' ds (follow (run g d) 0 (f m) q' ds))
+        by : (r : Read) → Right (z p) (walk g d (off + k) p) q cs r → ((m : ℕ) → Below m (z p) → (q' : ℕ) (ds : List ℕ) → Along 0 (f m) q' ds
+            (follow (run g d) 0 (f m) q' ds))
             → Along off (reads p k f) q cs (then r (λ m. follow (run g d) 0 (f m)))
         by (read m q' ds) h rest = after-part off p k f m (follow (run g d) 0 (f m) q' ds) (h .0) (h .1) (rest m (h .0) q' ds)
         by (wrong r) h rest = tt
@@ -107,7 +117,8 @@ module _ (z : ℕ → Size) (count : ℕ) (g : ℕ → Rule) where
     unfolding walk run
     right zero off i l q cs = tt
     right (suc d) off i l q cs =
-        as-right d (right d) off i l q cs (follow (run g d) off (g i .tree) q cs) (tree-only d (right d) (g i .tree) (g i .steps true) (good .lawful i l .inside) (good .lawful i l .names) off q cs)
+        as-right d (right d) off i l q cs (follow (run g d) off (g i .tree) q cs) (tree-only d (right d) (g i .tree) (g i .steps true)
+        (good .lawful i l .inside) (good .lawful i l .names) off q cs)
 
     pub only : (d off i : ℕ) → i < count → (q : ℕ) (cs : List ℕ) {m q' : ℕ} {rest : List ℕ} → run g d off i q cs ≡ read m q' rest
         → Below m (z i) × Spelt (walk g d off i m) q cs q' rest

@@ -17,7 +17,18 @@ answer-line-spec =
     (λ c. next-within _ _ (c .after .ensures) (c .before .before .pre .0 .start))
     (λ c. search needs)
     (λ c κs. search needs)
-    (λ c κs. next-within _ _ (c .before .before .before .before .before .before .before .after .ensures) (c .before .before .before .before .before .before .before .before .before .pre .0 .start))
-    (λ c. turn-table _ _ (c .before .before .before .before .before .before .before .before .before .before .pre .1) (c .before .before .before .before .before .before .before .before .after .ensures) (c .before .before .before .before .before .same .ensures) (c .before .before .before .before .if1 .taken) (c .take-table .ensures))
-    (λ c κs. (omega (arith, c .before .before .before .before .before .before .before .before .before .before .before .before .before .pre .0 .table), omega (arith, c .before .before .before .before .before .before .before .before .before .before .before .before .before .pre .0 .pool)))
-    (λ c. turn-call _ _ (c .before .before .before .before .before .before .before .before .before .before .before .before .before .before .pre .1) (c .before .before .before .before .before .before .before .before .before .before .before .before .after .ensures) (c .before .before .before .before .before .before .before .before .before .same .ensures) (c .before .before .before .before .before .before .before .before .if1 .left) (c .answer .ensures) (c .before .before .before .before .before .before .before .before .before .before .before .before .before .before .pre .0) (refl, refl, refl, refl, refl)))
+    (λ c κs. next-within _ _ (c .before .before .before .before .before .before .before .after .ensures)
+    (c .before .before .before .before .before .before .before .before .before .pre .0 .start))
+    (λ c. turn-table _ _ (c .before .before .before .before .before .before .before .before .before .before .pre .1)
+    (c .before .before .before .before .before .before .before .before .after .ensures) (c .before .before .before .before .before .same .ensures)
+    (c .before .before .before .before .if1 .taken) (c .take-table .ensures))
+    (λ c κs. (
+      omega (arith, c .before .before .before .before .before .before .before .before .before .before .before .before .before .pre .0 .table),
+      omega
+          (arith, c .before .before .before .before .before .before .before .before .before .before .before .before .before .pre .0 .pool),
+    ))
+    (λ c. turn-call _ _ (c .before .before .before .before .before .before .before .before .before .before .before .before .before .before .pre .1)
+    (c .before .before .before .before .before .before .before .before .before .before .before .before .after .ensures)
+    (c .before .before .before .before .before .before .before .before .before .same .ensures)
+    (c .before .before .before .before .before .before .before .before .if1 .left) (c .answer .ensures)
+    (c .before .before .before .before .before .before .before .before .before .before .before .before .before .before .pre .0) (refl, refl, refl, refl, refl)))

@@ -65,7 +65,8 @@ module _ {t p plan : List ℕ} (h : Planning t p plan) (i n : ℕ) (old : List �
             let a = was-asked (ruleIn plan p i .size) n u in
             let b = subst (Below n) (sym (good h .sized i l)) (a .below) in
             let w = s .fits p n (record { walks = walkable h; node = l; below = b }) in
-            let k : fitted (ruleIn plan p) i n (length old) ≡ Cells (length (w .case)) = fitted-is (ruleIn plan p) i n (length old) (w .case) a (w .shows) (omega (arith, w .few, m)) in
+            let k : fitted (ruleIn plan p) i n (length old) ≡ Cells (length (w .case)) = fitted-is (ruleIn plan p) i n (length old) (w .case) a (w .shows)
+            (omega (arith, w .few, m)) in
             let z : _≡_ {A = ℕ} 0 1 = cc in
             absurd (omega arith)
 

@@ -173,7 +173,8 @@ pub fn join(plan: &[u64], pool: &[u64], a: usize, b: usize, x: u64, y: u64) -> J
 // "to a dep's first and each second"
 pub fn steps(plan: &[u64], a: usize, b: usize) -> Named
     requires { ⌜ 4 * a + 3 < length (now plan) ⌝ }
-    ensures { λ r. ⌜ ((p : List ℕ) → b + firsts (now (plan .entry)) a ≤ length p → countOf (sizeIn (now (plan .entry)) a) ≡ firsts (now (plan .entry)) a → Names p (a ∷ secondsFrom p b (sizeIn (now (plan .entry)) a)) r) ⌝ }
+    ensures { λ r. ⌜ ((p : List ℕ) → b + firsts (now (plan .entry)) a ≤ length p → countOf (sizeIn (now (plan .entry)) a) ≡ firsts (now (plan .entry)) a →
+        Names p (a ∷ secondsFrom p b (sizeIn (now (plan .entry)) a)) r) ⌝ }
 {
     Named {
         first: true,

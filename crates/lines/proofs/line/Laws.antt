@@ -39,7 +39,12 @@ rest-back i n [] rest h =
     (ap (numbers (n ∷ [])) (omega (arith, length-append (decimal n) (10 ∷ []))))
 rest-back i n (m ∷ ns) rest h =
     let back = rest-back (i + length (decimal n) + 1) m ns rest (h .1) in
-    rw (append-assoc (decimal n) (32 ∷ lineText (m ∷ ns)) rest, at-space i (decimal n) (decimal-digits n) n (lineText (m ∷ ns) ++ rest) (decimal-number n (h .0)), back)
+    rw (
+      append-assoc (decimal n) (32 ∷ lineText (m ∷ ns)) rest,
+      at-space i (decimal n) (decimal-digits n) n (lineText (m ∷ ns) ++ rest)
+          (decimal-number n (h .0)),
+      back,
+    )
     (ap (numbers (n ∷ m ∷ ns)) (omega (arith, length-append (decimal n) (32 ∷ lineText (m ∷ ns)))))
 
 -- a line whose rest has a number is that rest
@@ -54,7 +59,8 @@ pub line-back : (before ns rest : List ℕ) → AllWords ns
 unfolding lineAt
 line-back before [] rest h = unfold lineText ended in rw (drop-append-seam before (10 ∷ rest)) (ap (numbers []) (omega arith))
 line-back before (n ∷ ns) rest h =
-    rw (drop-append-seam before (lineText (n ∷ ns) ++ rest)) (rest-line (length before) (ended (lineText (n ∷ ns) ++ rest)) (rest-back (length before) n ns rest h))
+    rw (drop-append-seam before (lineText (n ∷ ns) ++ rest)) (rest-line (length before) (ended (lineText (n ∷ ns) ++ rest))
+    (rest-back (length before) n ns rest h))
 
 -- ---- a line of numbers has one text
 record Ended (bs line : List ℕ) : Type 0 where
@@ -119,7 +125,8 @@ unfolding numbersOf
 numbers-words [] {ns} e = let same : _≡_ {A = List ℕ} [] ns = cc in rw (← same) tt
 numbers-words (w ∷ ws) {ns} e = by (numberOf w) (numbersOf ws) refl refl e (λ ms t. numbers-words ws t)
   where
-    by : (o : Option ℕ) (p : Option (List ℕ)) → numberOf w ≡ o → numbersOf ws ≡ p → both o p ≡ some ns → ((ms : List ℕ) → numbersOf ws ≡ some ms → AllWords ms) → AllWords ns
+    by : (o : Option ℕ) (p : Option (List ℕ)) → numberOf w ≡ o → numbersOf ws ≡ p → both o p ≡ some ns →
+        ((ms : List ℕ) → numbersOf ws ≡ some ms → AllWords ms) → AllWords ns
     by none p t u f r = absurd (Option·none-ne-some _ f)
     by (some n) none t u f r = absurd (Option·none-ne-some _ f)
     by (some n) (some ms) t u f r = let same : n ∷ ms ≡ ns = cc in rw (← same) (word-of w t .small, r ms u)

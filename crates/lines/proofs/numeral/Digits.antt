@@ -74,7 +74,8 @@ module _ (ds : List ℕ) (at : ℕ) where
   unfolding numeral
   numeral-of {v} {e} h = by (wellFormed ds && ltb (value ds) (2 ^ 64)) h
     where
-      by : (q : Bool) → cond q (Of (value ds) (at + length ds)) Not ≡ Of v e → (e ≡ at + length ds) × (cond q (Of (value ds) (0 + length ds)) Not ≡ Of v (length ds))
+      by : (q : Bool) → cond q (Of (value ds) (at + length ds)) Not ≡ Of v e → (e ≡ at + length ds) ×
+          (cond q (Of (value ds) (0 + length ds)) Not ≡ Of v (length ds))
       by true g = let z : 0 + length ds ≡ length ds = omega arith in ((cc), (cc))
       by false g = let z : _≡_ {A = ℕ} 0 1 = cc in absurd (omega arith)
 

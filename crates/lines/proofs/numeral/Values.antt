@@ -78,7 +78,12 @@ module _ {text : List ℕ} {at end v i : ℕ} (s : Valued text at end v i) where
       pub valued-past : r ≡ Past → Past ≡ worded (value (run (drop at text)))
       valued-past f =
           is-past (value (run (drop at text)))
-          (omega (arith, past-back (10 * v + (getD text i 0 - 48)) (sym e ∙ f), value-least (10 * v + (getD text i 0 - 48)) (run (drop (i + 1) text)), one-more))
+          (omega (
+            arith,
+            past-back (10 * v + (getD text i 0 - 48)) (sym e ∙ f),
+            value-least (10 * v + (getD text i 0 - 48)) (run (drop (i + 1) text)),
+            one-more,
+          ))
 
       pub valued-more : {w : ℕ} → r ≡ Fits w → Valued text at end w (i + 1)
       valued-more {w} f =

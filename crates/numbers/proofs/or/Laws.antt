@@ -105,12 +105,14 @@ unfolding split join
 split-join (finite s) (finite t) (First m) h =
     pick-by (λ n. pick (leb s t) (thenSecond s n) (thenFirst t n) ≡ First m) (ltb m t)
     (λ e. let l = ltb-true m t e in
-    pick-by (λ p. p ≡ First m) (leb s t) (λ u. rw (lt-ltb (2 * m + 0) (2 * s) (omega arith), even-turn m)) (λ u. rw (lt-ltb (2 * m + 0) (2 * t) (omega arith), even-turn m)))
+    pick-by (λ p. p ≡ First m) (leb s t) (λ u. rw (lt-ltb (2 * m + 0) (2 * s) (omega arith), even-turn m))
+    (λ u. rw (lt-ltb (2 * m + 0) (2 * t) (omega arith), even-turn m)))
     (λ e. let l = ltb-false m t e in rw (lt-leb s t (omega arith), le-ltb (m + t) (2 * t) (omega arith), add-sub-cancel m t))
 split-join (finite s) (finite t) (Second m) h =
     pick-by (λ n. pick (leb s t) (thenSecond s n) (thenFirst t n) ≡ Second m) (ltb m s)
     (λ e. let l = ltb-true m s e in
-    pick-by (λ p. p ≡ Second m) (leb s t) (λ u. rw (lt-ltb (2 * m + 1) (2 * s) (omega arith), odd-turn m)) (λ u. rw (lt-ltb (2 * m + 1) (2 * t) (omega arith), odd-turn m)))
+    pick-by (λ p. p ≡ Second m) (leb s t) (λ u. rw (lt-ltb (2 * m + 1) (2 * s) (omega arith), odd-turn m))
+    (λ u. rw (lt-ltb (2 * m + 1) (2 * t) (omega arith), odd-turn m)))
     (λ e. let l = ltb-false m s e in rw (le-leb s t (omega arith), le-ltb (m + s) (2 * s) (omega arith), add-sub-cancel m s))
 split-join (finite s) endless (First m) h = rw (lt-ltb (2 * m + 0) (2 * s) (omega arith), even-turn m)
 split-join (finite s) endless (Second m) h =

@@ -55,5 +55,11 @@ pub far-above : (n r : ℕ) → Above n r → 4 ≤ n → 1 < r
 far-above n r a l = by (leb r 1) refl
   where
     by : (q : Bool) → leb r 1 ≡ q → 1 < r
-    by true e = absurd (omega (arith, a .above, mul-le-mul {n₁ = r + 1} {m₁ = r + 1} {n₂ = 2} {m₂ = 2} (omega (arith, leb-true r 1 e)) (omega (arith, leb-true r 1 e)), l))
+    by true e = absurd (omega (
+      arith,
+      a .above,
+      mul-le-mul {n₁ = r + 1} {m₁ = r + 1} {n₂ = 2} {m₂ = 2} (omega (arith, leb-true r 1 e))
+          (omega (arith, leb-true r 1 e)),
+      l,
+    ))
     by false e = leb-false r 1 e

@@ -24,7 +24,8 @@ record Known (x : Reading) (count next : ℕ) : Type 0 where
   size : length ns ≡ count
 
 known : (x : Reading) {r : Line} {count next : ℕ} → r ≡ answer x → r ≡ Numbers count next → Known x count next
-known (numbers ns end) {r} {count} {next} e f = let s : length ns ≡ count = cc in let t : end ≡ next = cc in record { ns = ns; is = ap (numbers ns) t; size = s }
+known (numbers ns end) {r} {count} {next} e f = let s : length ns ≡ count = cc in let t : end ≡ next = cc in record
+    { ns = ns; is = ap (numbers ns) t; size = s }
 known unreadable e f = let z : _≡_ {A = ℕ} 0 1 = cc in absurd (omega arith)
 
 unknown : (x : Reading) {r : Line} → r ≡ answer x → r ≡ Unreadable → x ≡ unreadable
@@ -72,13 +73,15 @@ module _ {text tOld tLast : List ℕ} {a : Line} (k : ReadTable text tOld tLast 
         pub read-all : q ≡ true → ReadInput text tOld tLast pOld pLast (Cases c d i from)
         read-all e = record { answers = by (numbersFrom text from) (sym eq ∙ e) start-ends; table = k .leaves; pool = pool-leaves }
           where
-            by : (x : Option (List ℕ)) → readable x ≡ true → asked (withNumbers (t .ns) (p .ns) i from x) ≡ asked (inputOf text) → Cases c d i from ≡ asked (inputOf text)
+            by : (x : Option (List ℕ)) → readable x ≡ true → asked (withNumbers (t .ns) (p .ns) i from x) ≡ asked (inputOf text) → Cases c d i from ≡ asked
+                (inputOf text)
             by none f g = absurd (false≢true f)
             by (some ns) f g = rw (t .size, p .size) at g
 
         pub read-no-numbers : q ≡ false → ReadInput text tOld tLast pOld pLast Unclear
         read-no-numbers e = record { answers = by (numbersFrom text from) (sym eq ∙ e) start-ends; table = k .leaves; pool = pool-leaves }
           where
-            by : (x : Option (List ℕ)) → readable x ≡ false → asked (withNumbers (t .ns) (p .ns) i from x) ≡ asked (inputOf text) → Unclear ≡ asked (inputOf text)
+            by : (x : Option (List ℕ)) → readable x ≡ false → asked (withNumbers (t .ns) (p .ns) i from x) ≡ asked (inputOf text) → Unclear ≡ asked
+                (inputOf text)
             by none f g = g
             by (some ns) f g = absurd (true≢false f)

@@ -38,19 +38,20 @@ line-next ns i l =
     rw (add-one, drop-cons ns i 0 (omega arith), drop-cons ns (suc i) 0 (omega arith))
     (sym (append-assoc (decimal (getD ns i 0)) (32 ∷ []) (lineText (getD ns (suc i) 0 ∷ drop (suc (suc i)) ns))))
 
-module _ {ns old now : List ℕ} {used i : ℕ} (s : Lining ns old now used i) {part last : List ℕ} {k : ℕ} (e : part ≡ take (length now - used) (drop used now)) where
-  pub line-more : i + 1 < length ns → Filled (decimal (getD ns i 0) ++ (32 ∷ [])) part last k
-      → Lining ns old (take used now ++ (last ++ drop (length now - used) (drop used now))) (used + k) (i + 1)
-  line-more l f =
-      record {
-        text = s .text ++ (decimal (getD ns i 0) ++ (32 ∷ []));
-        is = s .is ∙ rw (line-next ns i l) (sym (append-assoc (s .text) (decimal (getD ns i 0) ++ (32 ∷ [])) (lineText (drop (i + 1) ns))));
-        fills = then (s .fills) f e;
-        few = l;
-      }
+module _ {ns old now : List ℕ} {used i : ℕ} (s : Lining ns old now used i) {part last : List ℕ} {k : ℕ} (e : part ≡ take (length now - used) (drop used now))
+  where
+    pub line-more : i + 1 < length ns → Filled (decimal (getD ns i 0) ++ (32 ∷ [])) part last k
+        → Lining ns old (take used now ++ (last ++ drop (length now - used) (drop used now))) (used + k) (i + 1)
+    line-more l f =
+        record {
+          text = s .text ++ (decimal (getD ns i 0) ++ (32 ∷ []));
+          is = s .is ∙ rw (line-next ns i l) (sym (append-assoc (s .text) (decimal (getD ns i 0) ++ (32 ∷ [])) (lineText (drop (i + 1) ns))));
+          fills = then (s .fills) f e;
+          few = l;
+        }
 
-  pub line-end : i + 1 ≡ length ns → Filled (decimal (getD ns (length ns - 1) 0) ++ (10 ∷ [])) part last k
-      → Filled (lineText ns) old (take used now ++ (last ++ drop (length now - used) (drop used now))) (used + k)
-  line-end l f =
-      let at-last : length ns - 1 ≡ i = omega arith in
-      rw (s .is, line-one ns i l) (then (s .fills) (rw at-last at f) e)
+    pub line-end : i + 1 ≡ length ns → Filled (decimal (getD ns (length ns - 1) 0) ++ (10 ∷ [])) part last k
+        → Filled (lineText ns) old (take used now ++ (last ++ drop (length now - used) (drop used now))) (used + k)
+    line-end l f =
+        let at-last : length ns - 1 ≡ i = omega arith in
+        rw (s .is, line-one ns i l) (then (s .fills) (rw at-last at f) e)

@@ -46,12 +46,19 @@ module _ {t p plan : List ℕ} (h : Planning t p plan) (i : ℕ) (cs old : List 
       pub gathers-of : Gathers (gather (ruleIn plan p) i (length old) cs)
       gathers-of = answered-done (length cs) (gather (ruleIn plan p) i (length old) cs) (sym e ∙ q)
 
-      pub got-kept : (first : List ℕ) {kept : List ℕ} → kept ≡ over (gotten (gather (ruleIn plan p) i (length old) cs)) first → Kept (gotten (gather (ruleIn plan p) i (length old) cs)) kept m (length old)
+      pub got-kept : (first : List ℕ) {kept : List ℕ} → kept ≡ over (gotten (gather (ruleIn plan p) i (length old) cs)) first → Kept
+          (gotten (gather (ruleIn plan p) i (length old) cs)) kept m (length old)
       got-kept first g =
           let a = gathers-of in
           let f : Done (length (a .ns)) (length cs) ≡ Done m c = ap (answered (length cs)) (sym (a .is)) ∙ sym e ∙ q in
           let s : length (a .ns) ≡ m = cc in
-          record { old = first; holds = g; many = ap (λ (x : Gathered). length (gotten x)) (a .is) ∙ s; fits = omega (arith, gathered-fits (ruleIn plan p) i (length old) cs (a .is), s) }
+          record {
+            old = first;
+            holds = g;
+            many = ap (λ (x : Gathered). length (gotten x)) (a .is) ∙ s;
+            fits = omega
+                (arith, gathered-fits (ruleIn plan p) i (length old) cs (a .is), s);
+          }
 
       pub got-numbers : {last : List ℕ} → last ≡ over (gotten (gather (ruleIn plan p) i (length old) cs)) old → GotRowPlanned t p i cs old last (Done m c)
       got-numbers f = record { is = sym (got-is ∙ q); holds = rw (← same-rules h) f }

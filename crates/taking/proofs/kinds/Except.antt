@@ -35,7 +35,8 @@ module _ (plan p : List ℕ) (a b left off : ℕ) {row : List ℕ} {at e x : ℕ
   -- Big stays so: an except takes off at most one
   pub except-stays : left ≤ 200 → b < 2 ^ 62 → 2 ^ 63 ≤ x → TakenBy exceptKind plan p a b left off row at e x
   unfolding exceptRule follow
-  except-stays lo s big = ⊎-elim (λ o. part-stops go off others h o) (λ o. subst (TakenBy exceptKind plan p a b left off row at e) (sym o) (at-limit o)) (past big)
+  except-stays lo s big = ⊎-elim (λ o. part-stops go off others h o) (λ o. subst (TakenBy exceptKind plan p a b left off row at e) (sym o) (at-limit o))
+      (past big)
     where
       past : {x : ℕ} → 2 ^ 63 ≤ x → (2 ^ 63 < x) ⊎ (x ≡ 2 ^ 63)
       past {x} l = ⊎-elim (λ o. inr (omega arith)) (λ o. inl o) (le-or-lt x (2 ^ 63))

@@ -8,7 +8,8 @@ use Rattle.bench.proofs.row.read_often.Statement.{statement}
 use Rattle.bench.proofs.row.read_often.Tie as tie
 
 abbrev Inv-loop : tie.InvT-loop
-Inv-loop table₀ pool kind start numbers₀ cells times used sum₀ k₀ table numbers sum k = (k ≤ times) × (length table ≡ length table₀) × (length numbers ≡ length numbers₀)
+Inv-loop table₀ pool kind start numbers₀ cells times used sum₀ k₀ table numbers sum k = (k ≤ times) × (length table ≡ length table₀) ×
+    (length numbers ≡ length numbers₀)
 
 abbrev μ-loop : tie.MeasureT-loop
 μ-loop table₀ pool kind start numbers₀ cells times used sum₀ k₀ table numbers sum k = times - k

@@ -16,5 +16,7 @@ take-lent-spec =
     (λ c. lent-none (c .before .before .take .ensures) (c .enum-told .given .1))
     (λ c. search needs)
     (λ c. search needs)
-    (λ c. lent-over (c .before .before .before .before .before .before .take .ensures) (c .before .before .before .before .count .given .1) refl (c .if1 .taken))
-    (λ c. lent-all (c .before .before .before .before .before .before .take .ensures) (c .before .before .before .before .count .given .1) refl refl (c .if1 .left)))
+    (λ c. lent-over (c .before .before .before .before .before .before .take .ensures) (c .before .before .before .before .count .given .1) refl
+    (c .if1 .taken))
+    (λ c. lent-all (c .before .before .before .before .before .before .take .ensures) (c .before .before .before .before .count .given .1) refl refl
+    (c .if1 .left)))

@@ -22,4 +22,6 @@ answer-spec =
     (λ c. simp length-take (omega arith))
     (λ c. simp length-take (omega arith))
     (λ c κs. search needs)
-    (λ c. told (line-call _ _ _ _ (c .before .before .before .before .before .before .before .before .before .before .if1 .left) (c .before .before .before .before .before .before .before .before .before .word-size .ensures .0) (c .before .before .before .before .before .before .before .call-of .ensures)) (c .answer-call .ensures)))
+    (λ c. told (line-call _ _ _ _ (c .before .before .before .before .before .before .before .before .before .before .if1 .left)
+    (c .before .before .before .before .before .before .before .before .before .word-size .ensures .0)
+    (c .before .before .before .before .before .before .before .call-of .ensures)) (c .answer-call .ensures)))

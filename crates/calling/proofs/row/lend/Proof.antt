@@ -18,4 +18,5 @@ lend-spec =
     (λ c. simp length-take (omega arith))
     (λ c κs. search needs)
     (λ c. search needs)
-    (λ c. rw (length-take-le _ _ (c .before .before .before .before .before .before .before .before .before .before .pre .2)) at (c .before .before .call .ensures)))
+    (λ c. rw (length-take-le _ _ (c .before .before .before .before .before .before .before .before .before .before .pre .2)) at
+    (c .before .before .call .ensures)))

@@ -14,10 +14,19 @@ read-spec =
     (λ c κs. search needs)
     (λ c κs. search needs)
     (λ c. search needs)
-    (λ c κs. omega (arith, got-fits (c .before .before .before .before .before .before .before .read-row .ensures) (c .before .before .before .items .given .1), c .before .before .before .before .before .before .numbers2 .given))
+    (λ c κs. omega (
+      arith,
+      got-fits (c .before .before .before .before .before .before .before .read-row .ensures)
+          (c .before .before .before .items .given .1),
+      c .before .before .before .before .before .before .numbers2 .given,
+    ))
     (λ c. search needs)
     (λ c κs. search needs)
     (λ c. search needs)
-    (λ c. told (got-done _ (c .before .before .before .before .before .before .before .before .before .before .before .before .fill .ensures) (c .before .before .before .before .before .before .before .before .read-row .ensures) (c .before .before .before .before .items .given .1)) (c .done-line .ensures))
+    (λ c. told (got-done _ (c .before .before .before .before .before .before .before .before .before .before .before .before .fill .ensures)
+    (c .before .before .before .before .before .before .before .before .read-row .ensures) (c .before .before .before .before .items .given .1))
+    (c .done-line .ensures))
     (λ c. search needs)
-    (λ c. told (got-refused _ (c .before .before .before .before .before .before .before .before .before .before .before .before .fill .ensures) (c .before .before .before .before .before .before .before .before .read-row .ensures) (c .before .before .before .before .refusal .given .1)) (c .refused-at-item .ensures)))
+    (λ c. told (got-refused _ (c .before .before .before .before .before .before .before .before .before .before .before .before .fill .ensures)
+    (c .before .before .before .before .before .before .before .before .read-row .ensures) (c .before .before .before .before .refusal .given .1))
+    (c .refused-at-item .ensures)))

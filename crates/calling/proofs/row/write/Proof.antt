@@ -14,10 +14,19 @@ write-spec =
     (λ c κs. search needs)
     (λ c κs. search needs)
     (λ c. search needs)
-    (λ c κs. omega (arith, row-fits (c .before .before .before .before .before .before .before .write-row .ensures) (c .before .before .before .items .given .1), c .before .before .before .before .before .before .cells2 .given))
+    (λ c κs. omega (
+      arith,
+      row-fits (c .before .before .before .before .before .before .before .write-row .ensures)
+          (c .before .before .before .items .given .1),
+      c .before .before .before .before .before .before .cells2 .given,
+    ))
     (λ c. search needs)
     (λ c κs. search needs)
     (λ c. search needs)
-    (λ c. told (row-done _ (c .before .before .before .before .before .before .before .before .before .before .before .before .fill .ensures) (c .before .before .before .before .before .before .before .before .write-row .ensures) (c .before .before .before .before .items .given .1)) (c .done-line .ensures))
+    (λ c. told (row-done _ (c .before .before .before .before .before .before .before .before .before .before .before .before .fill .ensures)
+    (c .before .before .before .before .before .before .before .before .write-row .ensures) (c .before .before .before .before .items .given .1))
+    (c .done-line .ensures))
     (λ c. search needs)
-    (λ c. told (row-refused _ (c .before .before .before .before .before .before .before .before .before .before .before .before .fill .ensures) (c .before .before .before .before .before .before .before .before .write-row .ensures) (c .before .before .before .before .refusal .given .1)) (c .refused-at-item .ensures)))
+    (λ c. told (row-refused _ (c .before .before .before .before .before .before .before .before .before .before .before .before .fill .ensures)
+    (c .before .before .before .before .before .before .before .before .write-row .ensures) (c .before .before .before .before .refusal .given .1))
+    (c .refused-at-item .ensures)))

@@ -20,7 +20,13 @@ answer-spec =
     (λ c κs. search needs)
     (λ c. told (buffer-none (c .before .before .before .before .take-lent .ensures) _ (c .before .before .enum-told .given .1)) (c .unreadable .ensures))
     (λ c κs. search needs)
-    (λ c. told (number-none (c .before .before .before .before .before .before .take-lent .ensures) (c .before .before .before .before .start .given .1) _ (c .before .before .if1 .taken)) (c .unreadable2 .ensures))
+    (λ c. told (number-none (c .before .before .before .before .before .before .take-lent .ensures) (c .before .before .before .before .start .given .1) _
+    (c .before .before .if1 .taken)) (c .unreadable2 .ensures))
     (λ c. search needs)
-    (λ c κs. omega (arith, lending (c .before .before .before .before .before .before .before .take-lent .ensures) (c .before .before .before .before .before .start .given .1) .fits))
-    (λ c. told (number-text (c .before .before .before .before .before .before .before .before .take-lent .ensures) (c .before .before .before .before .before .before .start .given .1) _ (c .before .before .before .before .if1 .left) refl) (c .lend .ensures)))
+    (λ c κs. omega (
+      arith,
+      lending (c .before .before .before .before .before .before .before .take-lent .ensures)
+          (c .before .before .before .before .before .start .given .1) .fits,
+    ))
+    (λ c. told (number-text (c .before .before .before .before .before .before .before .before .take-lent .ensures)
+    (c .before .before .before .before .before .before .start .given .1) _ (c .before .before .before .before .if1 .left) refl) (c .lend .ensures)))

@@ -15,11 +15,18 @@ call-spec =
     (λ c κs. search needs)
     (λ c κs. search needs)
     (λ c. search needs)
-    (λ c κs. omega (arith, written-fits (c .before .before .before .before .before .before .before .write .ensures) _ (c .before .before .before .count .given .1), c .before .before .before .before .before .before .cells2 .given))
+    (λ c κs. omega (
+      arith,
+      written-fits (c .before .before .before .before .before .before .before .write .ensures) _
+          (c .before .before .before .count .given .1),
+      c .before .before .before .before .before .before .cells2 .given,
+    ))
     (λ c. search needs)
     (λ c κs. search needs)
     (λ c κs. search needs)
     (λ c. search needs)
-    (λ c. told (wrote-done _ (c .before .before .before .before .before .before .before .before .before .before .before .before .fill .ensures) (c .before .before .before .before .before .before .before .before .write .ensures) (c .before .before .before .before .count .given .1)) (c .listed-line .ensures))
+    (λ c. told (wrote-done _ (c .before .before .before .before .before .before .before .before .before .before .before .before .fill .ensures)
+    (c .before .before .before .before .before .before .before .before .write .ensures) (c .before .before .before .before .count .given .1))
+    (c .listed-line .ensures))
     (λ c. search needs)
     (λ c. told (wrote-refused _ (c .before .before .before .before .before .before .before .before .before .before .before .before .before .before .fill .ensures) (c .before .before .before .before .before .before .before .before .before .before .write .ensures) (c .before .before .before .before .before .before .refusal .given .1)) (c .before .before .before .refused .ensures then c .end-line .ensures)))

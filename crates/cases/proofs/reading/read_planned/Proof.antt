@@ -14,4 +14,5 @@ read-planned-spec =
     (λ c. found-11 (c .before .before .before .before .before .pre) _ _ (c .if1 .taken))
     (λ c κs. (stands-at (c .before .before .before .before .before .pre) (c .if1 .left), omega arith))
     (λ c κs. search needs)
-    (λ c. found-is (c .before .before .before .before .before .before .before .pre) _ (c .before .before .if1 .left) _ (c .whole .ensures _ (c .before .got-at .ensures))))
+    (λ c. found-is (c .before .before .before .before .before .before .before .pre) _ (c .before .before .if1 .left) _
+    (c .whole .ensures _ (c .before .got-at .ensures))))

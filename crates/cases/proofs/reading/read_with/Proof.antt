@@ -16,4 +16,5 @@ read-with-spec =
     (λ c. search needs)
     (λ c. read-refused (c .before .before .before .before .before .prepare .ensures) _ _ (c .before .v .given .1))
     (λ c. search needs)
-    (λ c. read-accepted (c .before .before .before .before .before .before .prepare .ensures) _ _ (c .before .before .enum-told .given .1) (c .read-planned .ensures)))
+    (λ c. read-accepted (c .before .before .before .before .before .before .prepare .ensures) _ _ (c .before .before .enum-told .given .1)
+    (c .read-planned .ensures)))

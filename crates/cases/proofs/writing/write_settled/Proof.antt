@@ -15,4 +15,5 @@ write-settled-spec =
     (λ c. c .before .before .before .before .before .fits2 .ensures .long)
     (λ c. case-done (c .before .before .before .before .before .fits2 .ensures) (c .before .k .given .1))
     (λ c. c .before .before .before .before .before .fits2 .ensures .long)
-    (λ c. case-not (c .before .before .before .before .before .fits2 .ensures) (c .before .before .before .before .before .before .before .before .before .before .pre .1) (c .before .r .given .1)))
+    (λ c. case-not (c .before .before .before .before .before .fits2 .ensures)
+    (c .before .before .before .before .before .before .before .before .before .before .pre .1) (c .before .r .given .1)))

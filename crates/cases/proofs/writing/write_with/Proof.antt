@@ -17,4 +17,5 @@ write-with-spec =
     (λ c. wrote-refused (c .before .before .before .before .before .prepare .ensures) (c .before .v .given .1))
     (λ c. search needs)
     (λ c. search needs)
-    (λ c. wrote-planned (c .before .before .before .before .before .before .before .before .before .prepare .ensures) (c .before .before .before .before .before .enum-told .given .1) (c .before .before .write-planned .ensures)))
+    (λ c. wrote-planned (c .before .before .before .before .before .before .before .before .before .prepare .ensures)
+    (c .before .before .before .before .before .enum-told .given .1) (c .before .before .write-planned .ensures)))

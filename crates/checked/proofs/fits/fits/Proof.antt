@@ -21,12 +21,38 @@ fits-spec =
     (λ c κs. search needs)
     (λ c κs. search needs)
     (λ c. omega (arith, c .before .before .room-for .ensures))
-    (λ c. lent-long (c .before .before .before .before .before .before .before .before .before .before .args .out .now) (c .before .before .before .room-for .ensures))
-    (λ c κs. let h = c .before .before .before .before .before .before .before .before .before .before .pre in let a = c .before .before .before .before .before .asked .ensures in let y = c .before .before .before .before .if1 .taken in (
+    (λ c. lent-long (c .before .before .before .before .before .before .before .before .before .before .args .out .now)
+    (c .before .before .before .room-for .ensures))
+    (λ c κs. let h = c .before .before .before .before .before .before .before .before .before .before .pre in let a =
+    c .before .before .before .before .before .asked .ensures in let y = c .before .before .before .before .if1 .taken in (
       (visits-of h _ 0 a y, record { is = inl refl }),
-      (omega (arith, may h _ 0 a y .small), omega arith, omega arith, omega (arith, lent-long (c .before .before .before .before .before .before .before .before .before .before .args .out .now) (c .before .before .before .room-for .ensures), c .before .before .before .room-for .ensures)),
+      (
+        omega (arith, may h _ 0 a y .small),
+        omega arith,
+        omega arith,
+        omega (
+          arith,
+          lent-long (c .before .before .before .before .before .before .before .before .before .before .args .out .now)
+              (c .before .before .before .room-for .ensures),
+          c .before .before .before .room-for .ensures,
+        ),
+      ),
     ))
-    (λ c κs. λ l. omega (arith, left-within _ (c .before .before .lay .ensures .is) l, lent-long (c .before .before .before .before .before .before .before .before .before .before .before .before .before .args .out .now) (c .before .before .before .before .before .before .room-for .ensures)))
-    (λ c. fits-walk (c .before .before .before .before .before .before .before .before .before .before .before .before .before .before .pre) _ (c .before .before .before .before .before .before .before .before .before .asked .ensures) (c .before .before .before .before .before .before .before .before .before .before .before .before .before .before .args .out .now) (c .before .before .before .before .before .before .before .before .if1 .taken) (c .before .before .before .lay .result) (c .before .before .before .before .before .before .before .room-for .ensures) (c .fit-of .ensures) (c .before .before .before .lay .ensures) refl .long)
-    (λ c. fits-walk (c .before .before .before .before .before .before .before .before .before .before .before .before .before .before .pre) _ (c .before .before .before .before .before .before .before .before .before .asked .ensures) (c .before .before .before .before .before .before .before .before .before .before .before .before .before .before .args .out .now) (c .before .before .before .before .before .before .before .before .if1 .taken) (c .before .before .before .lay .result) (c .before .before .before .before .before .before .before .room-for .ensures) (c .fit-of .ensures) (c .before .before .before .lay .ensures) refl)
+    (λ c κs. λ l. omega (
+      arith,
+      left-within _ (c .before .before .lay .ensures .is) l,
+      lent-long
+          (c .before .before .before .before .before .before .before .before .before .before .before .before .before .args .out .now)
+          (c .before .before .before .before .before .before .room-for .ensures),
+    ))
+    (λ c. fits-walk (c .before .before .before .before .before .before .before .before .before .before .before .before .before .before .pre) _
+    (c .before .before .before .before .before .before .before .before .before .asked .ensures)
+    (c .before .before .before .before .before .before .before .before .before .before .before .before .before .before .args .out .now)
+    (c .before .before .before .before .before .before .before .before .if1 .taken) (c .before .before .before .lay .result)
+    (c .before .before .before .before .before .before .before .room-for .ensures) (c .fit-of .ensures) (c .before .before .before .lay .ensures) refl .long)
+    (λ c. fits-walk (c .before .before .before .before .before .before .before .before .before .before .before .before .before .before .pre) _
+    (c .before .before .before .before .before .before .before .before .before .asked .ensures)
+    (c .before .before .before .before .before .before .before .before .before .before .before .before .before .before .args .out .now)
+    (c .before .before .before .before .before .before .before .before .if1 .taken) (c .before .before .before .lay .result)
+    (c .before .before .before .before .before .before .before .room-for .ensures) (c .fit-of .ensures) (c .before .before .before .lay .ensures) refl)
     (λ c. fits-12 (c .before .before .before .before .before .before .pre) _ (c .before .asked .ensures) _ (c .if1 .left)))

@@ -19,10 +19,70 @@ got-at-spec =
     (λ c. omega (arith, c .before .before .before .before .pre .1, c .room-for .ensures))
     (λ c. omega (arith, c .before .before .before .before .pre .1, c .room-for .ensures))
     (λ c. omega (arith, c .before .before .before .before .pre .1, c .room-for .ensures))
-    (λ c κs. (c .before .before .before .before .before .before .before .before .before .pre .0, (omega arith, omega arith, omega arith, row-few (c .before .before .before .before .before .before .before .before .before .args .cells .now) (c .before .before .before .before .before .before .before .before .before .args .at) (c .before .before .before .before .before .before .before .before .before .args .at + c .before .before .before .before .before .room-for .result - c .before .before .before .before .before .before .before .before .before .args .at) (omega (arith, c .before .before .before .before .before .room-for .ensures)))))
-    (λ c. omega (arith, within (c .before .before .before .before .before .before .before .before .before .before .before .pre .0) (c .before .before .before .before .before .before .before .before .before .before .before .args .cells .now) (c .before .before .before .before .before .before .before .before .before .before .before .args .at) (c .before .before .before .before .before .before .before .before .before .before .before .pre .1) (c .before .before .before .before .before .before .before .before .before .before .before .args .at + c .before .before .before .before .before .before .before .room-for .result - c .before .before .before .before .before .before .before .before .before .before .before .args .at) (omega (arith, c .before .before .before .before .before .before .before .room-for .ensures)) refl (omega arith) (c .before .take .ensures) (omega (arith, c .if1 .taken))))
-    (λ c. met-below (c .before .before .before .before .before .before .before .before .before .before .before .pre .0) (c .before .before .before .before .before .before .before .before .before .before .before .args .cells .now) (c .before .before .before .before .before .before .before .before .before .before .before .args .at) (c .before .before .before .before .before .before .before .before .before .before .before .pre .1) (c .before .before .before .before .before .before .before .before .before .before .before .args .at + c .before .before .before .before .before .before .before .room-for .result - c .before .before .before .before .before .before .before .before .before .before .before .args .at) (omega (arith, c .before .before .before .before .before .before .before .room-for .ensures)) refl (omega arith) (c .before .take .ensures) (c .if1 .taken))
-    (λ c. omega (arith, within (c .before .before .before .before .before .before .before .before .before .before .before .before .pre .0) (c .before .before .before .before .before .before .before .before .before .before .before .before .args .cells .now) (c .before .before .before .before .before .before .before .before .before .before .before .before .args .at) (c .before .before .before .before .before .before .before .before .before .before .before .before .pre .1) (c .before .before .before .before .before .before .before .before .before .before .before .before .args .at + c .before .before .before .before .before .before .before .before .room-for .result - c .before .before .before .before .before .before .before .before .before .before .before .before .args .at) (omega (arith, c .before .before .before .before .before .before .before .before .room-for .ensures)) refl (omega arith) (c .before .before .take .ensures) (c .if2 .taken)))
-    (λ c. met-beyond (c .before .before .before .before .before .before .before .before .before .before .before .before .pre .0) (c .before .before .before .before .before .before .before .before .before .before .before .before .args .cells .now) (c .before .before .before .before .before .before .before .before .before .before .before .before .args .at) (c .before .before .before .before .before .before .before .before .before .before .before .before .pre .1) (c .before .before .before .before .before .before .before .before .before .before .before .before .args .at + c .before .before .before .before .before .before .before .before .room-for .result - c .before .before .before .before .before .before .before .before .before .before .before .before .args .at) (omega (arith, c .before .before .before .before .before .before .before .before .room-for .ensures)) refl (omega arith) (c .before .before .take .ensures) (c .before .if1 .left) (c .if2 .taken))
+    (λ c κs. (
+      c .before .before .before .before .before .before .before .before .before .pre .0,
+      (
+        omega arith,
+        omega arith,
+        omega arith,
+        row-few
+            (c .before .before .before .before .before .before .before .before .before .args .cells .now)
+            (c .before .before .before .before .before .before .before .before .before .args .at)
+            (c .before .before .before .before .before .before .before .before .before .args .at + c .before .before .before .before .before .room-for .result -
+            c .before .before .before .before .before .before .before .before .before .args .at) (omega (
+              arith,
+              c .before .before .before .before .before .room-for .ensures,
+            )),
+      ),
+    ))
+    (λ c. omega (
+      arith,
+      within (c .before .before .before .before .before .before .before .before .before .before .before .pre .0)
+          (c .before .before .before .before .before .before .before .before .before .before .before .args .cells .now)
+          (c .before .before .before .before .before .before .before .before .before .before .before .args .at)
+          (c .before .before .before .before .before .before .before .before .before .before .before .pre .1)
+          (c .before .before .before .before .before .before .before .before .before .before .before .args .at +
+          c .before .before .before .before .before .before .before .room-for .result -
+          c .before .before .before .before .before .before .before .before .before .before .before .args .at)
+          (omega (arith, c .before .before .before .before .before .before .before .room-for .ensures)) refl (omega arith) (c .before .take .ensures)
+          (omega (arith, c .if1 .taken)),
+    ))
+    (λ c. met-below (c .before .before .before .before .before .before .before .before .before .before .before .pre .0)
+    (c .before .before .before .before .before .before .before .before .before .before .before .args .cells .now)
+    (c .before .before .before .before .before .before .before .before .before .before .before .args .at)
+    (c .before .before .before .before .before .before .before .before .before .before .before .pre .1)
+    (c .before .before .before .before .before .before .before .before .before .before .before .args .at +
+    c .before .before .before .before .before .before .before .room-for .result -
+    c .before .before .before .before .before .before .before .before .before .before .before .args .at)
+    (omega (arith, c .before .before .before .before .before .before .before .room-for .ensures)) refl (omega arith) (c .before .take .ensures) (c .if1 .taken))
+    (λ c. omega (
+      arith,
+      within (c .before .before .before .before .before .before .before .before .before .before .before .before .pre .0)
+          (c .before .before .before .before .before .before .before .before .before .before .before .before .args .cells .now)
+          (c .before .before .before .before .before .before .before .before .before .before .before .before .args .at)
+          (c .before .before .before .before .before .before .before .before .before .before .before .before .pre .1)
+          (c .before .before .before .before .before .before .before .before .before .before .before .before .args .at +
+          c .before .before .before .before .before .before .before .before .room-for .result -
+          c .before .before .before .before .before .before .before .before .before .before .before .before .args .at)
+          (omega (arith, c .before .before .before .before .before .before .before .before .room-for .ensures)) refl (omega arith)
+          (c .before .before .take .ensures) (c .if2 .taken),
+    ))
+    (λ c. met-beyond (c .before .before .before .before .before .before .before .before .before .before .before .before .pre .0)
+    (c .before .before .before .before .before .before .before .before .before .before .before .before .args .cells .now)
+    (c .before .before .before .before .before .before .before .before .before .before .before .before .args .at)
+    (c .before .before .before .before .before .before .before .before .before .before .before .before .pre .1)
+    (c .before .before .before .before .before .before .before .before .before .before .before .before .args .at +
+    c .before .before .before .before .before .before .before .before .room-for .result -
+    c .before .before .before .before .before .before .before .before .before .before .before .before .args .at)
+    (omega (arith, c .before .before .before .before .before .before .before .before .room-for .ensures)) refl (omega arith)
+    (c .before .before .take .ensures) (c .before .if1 .left) (c .if2 .taken))
     (λ c κs. search needs)
-    (λ c. met-wrong (c .before .before .before .before .before .before .before .before .before .before .before .before .before .pre .0) (c .before .before .before .before .before .before .before .before .before .before .before .before .before .args .cells .now) (c .before .before .before .before .before .before .before .before .before .before .before .before .before .args .at) (c .before .before .before .before .before .before .before .before .before .before .before .before .before .pre .1) (c .before .before .before .before .before .before .before .before .before .before .before .before .before .args .at + c .before .before .before .before .before .before .before .before .before .room-for .result - c .before .before .before .before .before .before .before .before .before .before .before .before .before .args .at) (omega (arith, c .before .before .before .before .before .before .before .before .before .room-for .ensures)) refl (omega arith) (c .before .before .before .take .ensures) (c .before .if2 .left) (c .why .ensures)))
+    (λ c. met-wrong (c .before .before .before .before .before .before .before .before .before .before .before .before .before .pre .0)
+    (c .before .before .before .before .before .before .before .before .before .before .before .before .before .args .cells .now)
+    (c .before .before .before .before .before .before .before .before .before .before .before .before .before .args .at)
+    (c .before .before .before .before .before .before .before .before .before .before .before .before .before .pre .1)
+    (c .before .before .before .before .before .before .before .before .before .before .before .before .before .args .at +
+    c .before .before .before .before .before .before .before .before .before .room-for .result -
+    c .before .before .before .before .before .before .before .before .before .before .before .before .before .args .at)
+    (omega (arith, c .before .before .before .before .before .before .before .before .before .room-for .ensures)) refl (omega arith)
+    (c .before .before .before .take .ensures) (c .before .if2 .left) (c .why .ensures)))

@@ -31,31 +31,90 @@ module _ (t : ℕ) where
   at-t = and 5 settle-kinds.ps (is 5 settle-kinds.ps μ-settle t) settle.Pre
 
   abbrev calls : lts.Claims
-  calls = (steps-of.Asked, steps-of.Learnt, and 5 settle-kinds.ps (falls 5 settle-kinds.ps _<_ μ-settle t) settle.Pre, settle.Post, steps-safe.Asked, steps-safe.Learnt)
+  calls = (
+    steps-of.Asked,
+    steps-of.Learnt,
+    and 5 settle-kinds.ps (falls 5 settle-kinds.ps _<_ μ-settle t) settle.Pre,
+    settle.Post,
+    steps-safe.Asked,
+    steps-safe.Learnt,
+  )
 
 pub +settle-spec : {M : Type 1} → statement M
 +settle-spec = close μ-settle λ t. lts.spec (calls t) (at-t t) settle.Post Inv-loop μ-loop
     (λ c. c .before .before .before .before .pre .1 .1 .1)
     (λ c. omega (arith, c .before .before .before .before .pre .1 .0 .checked .few, c .before .before .before .before .pre .1 .1 .0))
     (λ c. c .before .before .before .before .before .before .pre .1 .1 .1)
-    (λ c. omega (arith, c .before .before .before .before .before .before .pre .1 .0 .checked .few, c .before .before .before .before .before .before .pre .1 .1 .0))
+    (λ c. omega (
+      arith,
+      c .before .before .before .before .before .before .pre .1 .0 .checked .few,
+      c .before .before .before .before .before .before .pre .1 .1 .0,
+    ))
     (λ c κs. (c .before .before .before .before .before .before .pre .1 .0, c .before .before .before .before .before .before .pre .1 .1 .0))
     (λ c. omega (arith, c .before .before .before .before .if1 .left))
-    (λ c κs. let r = c .before .before .before .before .before .before .before .before .before .before .pre .1 .0 in (omega (arith, c .before .before .before .before .before .before .before .before .before .before .pre .0, c .before .before .before .before .before .before .if1 .left), (r, (one-in r _ _ (c .before .before .before .steps-of .ensures) (c .before .before .if3 .taken), c .before .before .before .before .before .before .before .before .before .before .pre .1 .1 .1))))
+    (λ c κs. let r = c .before .before .before .before .before .before .before .before .before .before .pre .1 .0 in (
+      omega (
+        arith,
+        c .before .before .before .before .before .before .before .before .before .before .pre .0,
+        c .before .before .before .before .before .before .if1 .left,
+      ),
+      (
+        r,
+        (
+          one-in r _ _ (c .before .before .before .steps-of .ensures)
+              (c .before .before .if3 .taken),
+          c .before .before .before .before .before .before .before .before .before .before .pre .1 .1 .1,
+        ),
+      ),
+    ))
     (λ c. omega (arith, c .before .before .before .before .before .if1 .left))
-    (λ c κs. let r = c .before .before .before .before .before .before .before .before .before .before .before .pre .1 .0 in
-    (omega (arith, c .before .before .before .before .before .before .before .before .before .before .before .pre .0, c .before .before .before .before .before .before .before .if1 .left), (r, (two-in r _ _ (c .before .before .before .before .steps-of .ensures) (c .before .before .if4 .taken), ⊎-elim (λ w. rw (w .5) (w .3 .ensures)) (λ w. rw (w .2) (c .before .before .before .before .before .before .before .before .before .before .before .pre .1 .1 .1)) (c .before .before .before .if3 .came)))))
-    (λ c. (omega arith, ⊎-elim (λ w. rw (w .5) (w .3 .ensures)) (λ w. rw (w .2) (⊎-elim (λ w. rw (w .5) (w .3 .ensures)) (λ w. rw (w .2) (c .before .before .before .before .before .before .before .before .before .pre .1 .1 .1)) (c .before .if3 .came))) (c .if4 .came)))
+    (λ c κs. let r = c .before .before .before .before .before .before .before .before .before .before .before .pre .1 .0 in (
+      omega (
+        arith,
+        c .before .before .before .before .before .before .before .before .before .before .before .pre .0,
+        c .before .before .before .before .before .before .before .if1 .left,
+      ),
+      (
+        r,
+        (
+          two-in r _ _ (c .before .before .before .before .steps-of .ensures)
+              (c .before .before .if4 .taken),
+          ⊎-elim (λ w. rw (w .5) (w .3 .ensures))
+              (λ w. rw (w .2) (c .before .before .before .before .before .before .before .before .before .before .before .pre .1 .1 .1))
+              (c .before .before .before .if3 .came),
+        ),
+      ),
+    ))
+    (λ c. (
+      omega arith,
+      ⊎-elim (λ w. rw (w .5) (w .3 .ensures)) (λ w. rw (w .2) (⊎-elim (λ w. rw (w .5) (w .3 .ensures))
+          (λ w. rw (w .2) (c .before .before .before .before .before .before .before .before .before .pre .1 .1 .1)) (c .before .if3 .came))) (c .if4 .came),
+    ))
     (λ c. omega (arith, c .before .before .before .before .steps-of .ensures .inside, c .loop-test .taken))
     (λ c. omega (arith, c .before .before .before .before .steps-of .ensures .inside, c .loop-test .taken))
     (λ c. omega (arith, c .before .before .before .before .before .steps-of .ensures .inside, c .before .loop-test .taken))
     (λ c. omega (arith, c .before .before .before .before .before .before .before .before .if1 .left))
-    (λ c κs. let r = c .before .before .before .before .before .before .before .before .before .before .before .before .before .before .pre .1 .0 in
-    (omega (arith, c .before .before .before .before .before .before .before .before .before .before .before .before .before .before .pre .0, c .before .before .before .before .before .before .before .before .before .before .if1 .left), (r, (run-in r _ _ (c .before .before .before .before .before .before .before .steps-of .ensures) _ (c .before .before .before .loop-test .taken), c .before .before .before .before .loop .inv .1))))
+    (λ c κs. let r = c .before .before .before .before .before .before .before .before .before .before .before .before .before .before .pre .1 .0 in (
+      omega (
+        arith,
+        c .before .before .before .before .before .before .before .before .before .before .before .before .before .before .pre .0,
+        c .before .before .before .before .before .before .before .before .before .before .if1 .left,
+      ),
+      (
+        r,
+        (
+          run-in r _ _ (c .before .before .before .before .before .before .before .steps-of .ensures) _ (c .before .before .before .loop-test .taken),
+          c .before .before .before .before .loop .inv .1,
+        ),
+      ),
+    ))
     (λ c. omega (arith, c .before .before .before .before .loop-test .taken))
     (λ c. search (needs, c .before .before .before .before .before .before .before .before .steps-of .ensures .inside))
     (λ c. (omega (arith, c .before .before .before .before .loop-test .taken), c .settle3 .ensures))
-    (λ c κs. (c .before .before .before .before .before .before .before .before .before .before .before .before .pre .1 .0, c .before .before .before .before .before .before .before .before .before .before .before .before .pre .1 .1 .0))
+    (λ c κs. (
+      c .before .before .before .before .before .before .before .before .before .before .before .before .pre .1 .0,
+      c .before .before .before .before .before .before .before .before .before .before .before .before .pre .1 .1 .0,
+    ))
     (λ c. omega (arith, c .before .before .before .before .before .before .before .before .before .before .before .before .before .before .pre .1 .0 .checked .few, c .before .before .before .before .before .before .before .before .before .before .before .before .before .before .pre .1 .1 .0))
     (λ c. now-marked _ (c .before .before .before .before .loop .inv .1) (c .before .steps-safe .ensures) (c .if5 .taken))
     (λ c. c .before .before .before .before .loop .inv .1)

@@ -24,10 +24,14 @@ all-settled-spec =
     (λ c. omega arith)
     (λ c. omega arith)
     (λ c. let i = c .before .before .before .loop .inv in settled-more i (c .before .before .loop-test .taken) (i .marked) (c .if1 .taken))
-    (λ c κs. (c .before .before .before .before .before .before .before .before .before .before .pre .0, (omega arith, c .before .before .before .before .before .loop .inv .marked)))
+    (λ c κs. (
+      c .before .before .before .before .before .before .before .before .before .before .pre .0,
+      (omega arith, c .before .before .before .before .before .loop .inv .marked),
+    ))
     (λ c. omega arith)
     (λ c. λ e. absurd (false≢true e))
     (λ c. omega arith)
     (λ c. omega arith)
-    (λ c. settled-more (c .before .before .before .before .before .before .before .before .loop .inv) (c .before .before .before .before .before .before .before .loop-test .taken) (c .before .before .settle .ensures) (c .if2 .left))
+    (λ c. settled-more (c .before .before .before .before .before .before .before .before .loop .inv)
+    (c .before .before .before .before .before .before .before .loop-test .taken) (c .before .before .settle .ensures) (c .if2 .left))
     (λ c. λ e. settled-all (c .before .before .before .before .before .before .pre .0) (c .before .loop .inv) (c .loop-test .left)))

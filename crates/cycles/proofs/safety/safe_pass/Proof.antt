@@ -29,7 +29,12 @@ safe-pass-spec =
     (λ c. omega arith)
     (λ c. omega arith)
     (λ c. omega arith)
-    (λ c. (omega arith, omega arith, pass-safe _ (c .before .before .before .before .before .before .loop .inv .2 .marked) (c .before .steps-safe .ensures) (c .if2 .taken) (c .before .before .before .before .before .before .loop .inv .2)))
+    (λ c. (
+      omega arith,
+      omega arith,
+      pass-safe _ (c .before .before .before .before .before .before .loop .inv .2 .marked) (c .before .steps-safe .ensures)
+          (c .if2 .taken) (c .before .before .before .before .before .before .loop .inv .2),
+    ))
     (λ c. omega arith)
     (λ c. omega arith)
     (λ c. omega arith)

@@ -12,5 +12,11 @@ mark-steps-spec =
     (λ c κs. search needs)
     (λ c κs. one-few (c .before .before .before .before .before .pre .0) _ _ (c .before .steps-of .ensures))
     (λ c κs. two-few (c .before .before .before .before .before .before .before .pre .0) _ _ (c .before .before .before .steps-of .ensures))
-    (λ c κs. let s = c .before .before .before .before .before .steps-of .ensures in (s .inside, run-few (c .before .before .before .before .before .before .before .before .before .pre .0) _ _ s))
-    (λ c. marks-named (c .before .before .before .before .before .before .before .before .before .before .pre .0) _ _ (c .before .before .before .before .before .before .steps-of .ensures) _ (c .before .before .before .before .mark-one .ensures) (c .before .before .mark-one2 .ensures) (c .mark-run .ensures)))
+    (λ c κs. let s = c .before .before .before .before .before .steps-of .ensures in (
+      s .inside,
+      run-few
+          (c .before .before .before .before .before .before .before .before .before .pre .0) _ _ s,
+    ))
+    (λ c. marks-named (c .before .before .before .before .before .before .before .before .before .before .pre .0) _ _
+    (c .before .before .before .before .before .before .steps-of .ensures) _ (c .before .before .before .before .mark-one .ensures)
+    (c .before .before .mark-one2 .ensures) (c .mark-run .ensures)))

@@ -104,16 +104,38 @@ module _ (t : ℕ) where
 pub +both+lay+tagged-spec : {M : Type 1} → statement M
 +both+lay+tagged-spec = close μ-both μ-lay μ-tagged
     (λ t. both-lts.spec (lay-below t, lay.Post) (both-at t) both.Post
-    (λ c κs. let at-pre = c .before .before in let p = at-pre .pre in (omega (arith, p .0), ((p .1 .0 .0, raised-zero _ _), (p .1 .1 .0, omega (arith, p .1 .1 .2), p .1 .1 .2, p .1 .1 .3))))
+    (λ c κs. let at-pre = c .before .before in let p = at-pre .pre in (
+      omega (arith, p .0),
+      (
+        (p .1 .0 .0, raised-zero _ _),
+        (p .1 .1 .0, omega (arith, p .1 .1 .2), p .1 .1 .2, p .1 .1 .3),
+      ),
+    ))
     (λ c. let at-lay = c .before .before .before in at-lay .lay .ensures .long)
     (λ c. let at-lay = c .before .before .before in laid-stops _ (at-lay .lay .ensures) (c .if1 .taken))
-    (λ c. let at-lay = c .before .before .before in let at-pre = at-lay .before .before .before in omega (arith, left-within _ (at-lay .lay .ensures .is) (c .if1 .left), at-lay .lay .ensures .long, at-pre .pre .1 .1 .3))
-    (λ c. let at-lay = c .before .before .before in let at-pre = at-lay .before .before .before in omega (arith, left-within _ (at-lay .lay .ensures .is) (c .if1 .left), at-lay .lay .ensures .long, at-pre .pre .1 .1 .3))
-    (λ c. let at-lay = c .before .before .before in let at-pre = at-lay .before .before .before in omega (arith, left-within _ (at-lay .lay .ensures .is) (c .if1 .left), at-lay .lay .ensures .long, at-pre .pre .1 .1 .3))
-    (λ c. let at-lay = c .before .before .before in let at-pre = at-lay .before .before .before in omega (arith, left-within _ (at-lay .lay .ensures .is) (c .if1 .left), at-lay .lay .ensures .long, at-pre .pre .1 .1 .3))
-    (λ c. let at-lay = c .before .before .before in let at-pre = at-lay .before .before .before in omega (arith, left-within _ (at-lay .lay .ensures .is) (c .if1 .left), at-lay .lay .ensures .long, at-pre .pre .1 .1 .3))
-    (λ c κs. let at-lay = c .before .before .before .before in let at-pre = at-lay .before .before .before in let p = at-pre .pre in
-    (omega (arith, p .0), ((p .1 .0 .1, raised-zero _ _), (p .1 .1 .1, omega (arith, p .1 .1 .2), p .1 .1 .2, lent-most _ (at-lay .lay .ensures) (p .1 .1 .3)))))
+    (λ c. let at-lay = c .before .before .before in let at-pre = at-lay .before .before .before in omega
+    (arith, left-within _ (at-lay .lay .ensures .is) (c .if1 .left), at-lay .lay .ensures .long, at-pre .pre .1 .1 .3))
+    (λ c. let at-lay = c .before .before .before in let at-pre = at-lay .before .before .before in omega
+    (arith, left-within _ (at-lay .lay .ensures .is) (c .if1 .left), at-lay .lay .ensures .long, at-pre .pre .1 .1 .3))
+    (λ c. let at-lay = c .before .before .before in let at-pre = at-lay .before .before .before in omega
+    (arith, left-within _ (at-lay .lay .ensures .is) (c .if1 .left), at-lay .lay .ensures .long, at-pre .pre .1 .1 .3))
+    (λ c. let at-lay = c .before .before .before in let at-pre = at-lay .before .before .before in omega
+    (arith, left-within _ (at-lay .lay .ensures .is) (c .if1 .left), at-lay .lay .ensures .long, at-pre .pre .1 .1 .3))
+    (λ c. let at-lay = c .before .before .before in let at-pre = at-lay .before .before .before in omega
+    (arith, left-within _ (at-lay .lay .ensures .is) (c .if1 .left), at-lay .lay .ensures .long, at-pre .pre .1 .1 .3))
+    (λ c κs. let at-lay = c .before .before .before .before in let at-pre = at-lay .before .before .before in let p = at-pre .pre in (
+      omega (arith, p .0),
+      (
+        (p .1 .0 .1, raised-zero _ _),
+        (
+          p .1 .1 .1,
+          omega (arith, p .1 .1 .2),
+          p .1 .1 .2,
+          lent-most _ (at-lay .lay .ensures)
+              (p .1 .1 .3),
+        ),
+      ),
+    ))
     (λ c. both-two t c .long)
     (λ c. both-two t c))
     (λ t. lay-lts.spec (calls t) (lay-at t) lay.Post
@@ -135,49 +157,90 @@ pub +both+lay+tagged-spec : {M : Type 1} → statement M
     (λ c κs. let at-pre = c .before .before .before .before .before .before .before .before in at-pre .pre .1 .1 .3)
     (λ c κs. let at-pre = c .before .before .before .before .before .before .before .before in pool-place (at-pre .pre .1 .0 .0) (c .before .match .keys3))
     (λ c κs. let at-pre = c .before .before .before .before .before .before .before .before .before .before in at-pre .pre .1 .1 .3)
-    (λ c. let at-pre = c .before .before .before .before .before .before .before in omega (arith, at-pre .pre .1 .1 .1, shift-small (visited (at-pre .pre .1 .0 .0)) (c .match .keys4)))
+    (λ c. let at-pre = c .before .before .before .before .before .before .before in omega (
+      arith,
+      at-pre .pre .1 .1 .1,
+      shift-small
+          (visited (at-pre .pre .1 .0 .0)) (c .match .keys4),
+    ))
     (λ c. let at-if1 = c .before .before .before .before .before in omega (arith, at-if1 .if1 .left))
-    (λ c κs. let at-if1 = c .before .before .before .before .before .before in let at-pre = at-if1 .before .before in let v = at-pre .pre .1 .0 .0 in let k = c .before .match .keys4 in lay-shift _ (at-pre .pre .0) (at-if1 .if1 .left) (at-pre .pre .1 .1)
+    (λ c κs. let at-if1 = c .before .before .before .before .before .before in let at-pre = at-if1 .before .before in let v = at-pre .pre .1 .0 .0 in let k =
+    c .before .match .keys4 in lay-shift _ (at-pre .pre .0) (at-if1 .if1 .left) (at-pre .pre .1 .1)
     (next-by v (shift-items v k) .0) (shift-raised (visited v) k _) (shift-small (visited v) k))
-    (λ c κs. let at-pre = c .before .before .before .before .before .before .before in let v = visited (at-pre .pre .1 .0 .0) in parts-in v (or-lower v (c .match .keys5)))
+    (λ c κs. let at-pre = c .before .before .before .before .before .before .before in let v = visited (at-pre .pre .1 .0 .0) in parts-in v
+    (or-lower v (c .match .keys5)))
     (λ c. let at-if1 = c .before .before .before .before .before .before in omega (arith, at-if1 .if1 .left))
-    (λ c κs. let at-match = c .before .before in let at-if1 = at-match .before .before .before .before .before in let at-pre = at-if1 .before .before in let v = at-pre .pre .1 .0 .0 in lay-tagged _ (at-pre .pre .0) (at-if1 .if1 .left) (at-pre .pre .1 .1)
+    (λ c κs. let at-match = c .before .before in let at-if1 = at-match .before .before .before .before .before in let at-pre = at-if1 .before .before in let
+    v = at-pre .pre .1 .0 .0 in lay-tagged _ (at-pre .pre .0) (at-if1 .if1 .left) (at-pre .pre .1 .1)
     (next-by v (items-of (or-rule (visited v) (at-match .match .keys5)) ∙ c .before .step2 .ensures) .0))
-    (λ c κs. let at-pre = c .before .before .before .before .before .before .before in let v = visited (at-pre .pre .1 .0 .0) in let l = cons-lower v (c .match .keys6) in (parts-in v l, words-some v l))
+    (λ c κs. let at-pre = c .before .before .before .before .before .before .before in let v = visited (at-pre .pre .1 .0 .0) in let l = cons-lower v
+    (c .match .keys6) in (parts-in v l, words-some v l))
     (λ c. let at-if1 = c .before .before .before .before .before .before in omega (arith, at-if1 .if1 .left))
-    (λ c κs. let at-match = c .before .before in let at-if1 = at-match .before .before .before .before .before in let at-pre = at-if1 .before .before in let v = at-pre .pre .1 .0 .0 in let n = next-by v (items-of (cons-rule (visited v) (at-match .match .keys6)) ∙ c .before .step3 .ensures) in
+    (λ c κs. let at-match = c .before .before in let at-if1 = at-match .before .before .before .before .before in let at-pre = at-if1 .before .before in let
+    v = at-pre .pre .1 .0 .0 in let n = next-by v (items-of (cons-rule (visited v) (at-match .match .keys6)) ∙ c .before .step3 .ensures) in
     lay-both _ (at-pre .pre .0) (at-if1 .if1 .left) (at-pre .pre .1 .1) (n .0) (n .1 .0))
-    (λ c κs. let at-pre = c .before .before .before .before .before .before .before .before in let v = at-pre .pre .1 .0 .0 in ((choosing (visited v) (c .before .match .keys7) .words, v .walks .slight), dep-low v (c .before .match .keys7)))
+    (λ c κs. let at-pre = c .before .before .before .before .before .before .before .before in let v = at-pre .pre .1 .0 .0 in
+    ((choosing (visited v) (c .before .match .keys7) .words, v .walks .slight), dep-low v (c .before .match .keys7)))
     (λ c. let at-if1 = c .before .before .before .before .before .before .before in omega (arith, at-if1 .if1 .left))
-    (λ c κs. let at-match = c .before .before .before in let at-if1 = at-match .before .before .before .before .before in let at-pre = at-if1 .before .before in let v = at-pre .pre .1 .0 .0 in let n = next-by v (dep-items v (at-match .match .keys7) (c .before .step4 .ensures _)) in
+    (λ c κs. let at-match = c .before .before .before in let at-if1 = at-match .before .before .before .before .before in let at-pre = at-if1 .before .before
+    in let v = at-pre .pre .1 .0 .0 in let n = next-by v (dep-items v (at-match .match .keys7) (c .before .step4 .ensures _)) in
     lay-both _ (at-pre .pre .0) (at-if1 .if1 .left) (at-pre .pre .1 .1) (n .0) (n .1 .0))
     (λ c κs. let at-pre = c .before .before .before .before .before .before .before in omega (arith, at-pre .pre .1 .1 .0))
     (λ c. let at-if1 = c .before .before .before .before .before .before in omega (arith, at-if1 .if1 .left))
-    (λ c κs. let at-match = c .before .before in let at-if1 = at-match .before .before .before .before .before in let at-pre = at-if1 .before .before in let v = at-pre .pre .1 .0 .0 in lay-part _ (at-pre .pre .0) (at-if1 .if1 .left) (at-pre .pre .1 .1) (next-by v (except-items v (at-match .match .keys8) (c .before .split .ensures)) .0))
+    (λ c κs. let at-match = c .before .before in let at-if1 = at-match .before .before .before .before .before in let at-pre = at-if1 .before .before in let
+    v = at-pre .pre .1 .0 .0 in lay-part _ (at-pre .pre .0) (at-if1 .if1 .left) (at-pre .pre .1 .1) (next-by v
+    (except-items v (at-match .match .keys8) (c .before .split .ensures)) .0))
     (λ c. let at-if1 = c .before .before .before .before .before in omega (arith, at-if1 .if1 .left))
-    (λ c κs. let at-if1 = c .before .before .before .before .before .before in let at-pre = at-if1 .before .before in let v = at-pre .pre .1 .0 .0 in lay-part _ (at-pre .pre .0) (at-if1 .if1 .left) (at-pre .pre .1 .1) (next-by v (fix-items v (c .before .match .keys9)) .0))
+    (λ c κs. let at-if1 = c .before .before .before .before .before .before in let at-pre = at-if1 .before .before in let v = at-pre .pre .1 .0 .0 in lay-part
+    _ (at-pre .pre .0) (at-if1 .if1 .left) (at-pre .pre .1 .1) (next-by v (fix-items v (c .before .match .keys9)) .0))
     (λ c. let at-if1 = c .before .before .before .before .before in omega (arith, at-if1 .if1 .left))
-    (λ c κs. let at-if1 = c .before .before .before .before .before .before in let at-pre = at-if1 .before .before in let v = at-pre .pre .1 .0 .0 in lay-part _ (at-pre .pre .0) (at-if1 .if1 .left) (at-pre .pre .1 .1) (next-by v (again-items v (c .before .match .keys10)) .0))
+    (λ c κs. let at-if1 = c .before .before .before .before .before .before in let at-pre = at-if1 .before .before in let v = at-pre .pre .1 .0 .0 in lay-part
+    _ (at-pre .pre .0) (at-if1 .if1 .left) (at-pre .pre .1 .1) (next-by v (again-items v (c .before .match .keys10)) .0))
     (λ c. let at-put = c .before .before in at-put .put .ensures .long)
-    (λ c. let at-put = c .before .before in let at-match = at-put .before .before in let at-if1 = at-match .before .before .before .before .before in let at-pre = at-if1 .before .before in laid-by (walk-cell _ _ _ _ (at-if1 .if1 .left) (below-items (at-pre .pre .1 .0 .0) (at-match .match .keys1)) refl) (at-put .put .ensures))
+    (λ c. let at-put = c .before .before in let at-match = at-put .before .before in let at-if1 = at-match .before .before .before .before .before in let
+    at-pre = at-if1 .before .before in laid-by (walk-cell _ _ _ _ (at-if1 .if1 .left) (below-items (at-pre .pre .1 .0 .0) (at-match .match .keys1)) refl)
+    (at-put .put .ensures))
     (λ c. let at-put2 = c .before .before in at-put2 .put2 .ensures .long)
-    (λ c. let at-put2 = c .before .before in let at-match = at-put2 .before .before in let at-if1 = at-match .before .before .before .before .before in let at-pre = at-if1 .before .before in laid-by (walk-cell _ _ _ _ (at-if1 .if1 .left) (nats-items (at-pre .pre .1 .0 .0) (at-match .match .keys2)) refl) (at-put2 .put2 .ensures))
+    (λ c. let at-put2 = c .before .before in let at-match = at-put2 .before .before in let at-if1 = at-match .before .before .before .before .before in let
+    at-pre = at-if1 .before .before in laid-by (walk-cell _ _ _ _ (at-if1 .if1 .left) (nats-items (at-pre .pre .1 .0 .0) (at-match .match .keys2)) refl)
+    (at-put2 .put2 .ensures))
     (λ c. let at-put3 = c .before .before in at-put3 .put3 .ensures .long)
-    (λ c. let at-put3 = c .before .before in let at-step = at-put3 .before .before in let at-match = at-step .before .before in let at-if1 = at-match .before .before .before .before .before in let at-pre = at-if1 .before .before in laid-by (walk-word _ _ _ _ (at-if1 .if1 .left) (pool-items (at-pre .pre .1 .0 .0) (at-match .match .keys3) (at-step .step .ensures)) (raised-none (at-pre .pre .1 .0 .1) (at-match .match .keys3) refl)) (at-put3 .put3 .ensures))
+    (λ c. let at-put3 = c .before .before in let at-step = at-put3 .before .before in let at-match = at-step .before .before in let at-if1 =
+    at-match .before .before .before .before .before in let at-pre = at-if1 .before .before in laid-by
+    (walk-word _ _ _ _ (at-if1 .if1 .left) (pool-items (at-pre .pre .1 .0 .0) (at-match .match .keys3) (at-step .step .ensures))
+    (raised-none (at-pre .pre .1 .0 .1) (at-match .match .keys3) refl)) (at-put3 .put3 .ensures))
     (λ c. let at-lay = c .before .before in at-lay .lay .ensures .long)
-    (λ c. let at-lay = c .before .before in let at-match = at-lay .before .before in let at-if1 = at-match .before .before .before .before .before in let at-pre = at-if1 .before .before in laid-by (walk-pass _ _ _ _ (at-if1 .if1 .left) (shift-items (at-pre .pre .1 .0 .0) (at-match .match .keys4)) refl) (at-lay .lay .ensures))
+    (λ c. let at-lay = c .before .before in let at-match = at-lay .before .before in let at-if1 = at-match .before .before .before .before .before in let
+    at-pre = at-if1 .before .before in laid-by (walk-pass _ _ _ _ (at-if1 .if1 .left) (shift-items (at-pre .pre .1 .0 .0) (at-match .match .keys4)) refl)
+    (at-lay .lay .ensures))
     (λ c. let at-tagged = c .before .before in at-tagged .tagged .ensures .long)
-    (λ c. let at-tagged = c .before .before in let at-step2 = at-tagged .before .before in let at-match = at-step2 .before in let at-if1 = at-match .before .before .before .before .before in let at-pre = at-if1 .before .before in laid-by (walk-tag _ _ _ _ (at-if1 .if1 .left) (items-of (or-rule (visited (at-pre .pre .1 .0 .0)) (at-match .match .keys5)) ∙ at-step2 .step2 .ensures) (raised-none (at-pre .pre .1 .0 .1) (at-match .match .keys5) refl)) (at-tagged .tagged .ensures))
+    (λ c. let at-tagged = c .before .before in let at-step2 = at-tagged .before .before in let at-match = at-step2 .before in let at-if1 =
+    at-match .before .before .before .before .before in let at-pre = at-if1 .before .before in laid-by
+    (walk-tag _ _ _ _ (at-if1 .if1 .left) (items-of (or-rule (visited (at-pre .pre .1 .0 .0)) (at-match .match .keys5)) ∙ at-step2 .step2 .ensures)
+    (raised-none (at-pre .pre .1 .0 .1) (at-match .match .keys5) refl)) (at-tagged .tagged .ensures))
     (λ c. let at-both = c .before .before in at-both .both .ensures .long)
-    (λ c. let at-both = c .before .before in let at-step3 = at-both .before .before in let at-match = at-step3 .before in let at-if1 = at-match .before .before .before .before .before in let at-pre = at-if1 .before .before in laid-by (walk-two _ _ _ _ (at-if1 .if1 .left) (items-of (cons-rule (visited (at-pre .pre .1 .0 .0)) (at-match .match .keys6)) ∙ at-step3 .step3 .ensures) (raised-none (at-pre .pre .1 .0 .1) (at-match .match .keys6) refl)) (at-both .both .ensures))
+    (λ c. let at-both = c .before .before in let at-step3 = at-both .before .before in let at-match = at-step3 .before in let at-if1 =
+    at-match .before .before .before .before .before in let at-pre = at-if1 .before .before in laid-by
+    (walk-two _ _ _ _ (at-if1 .if1 .left) (items-of (cons-rule (visited (at-pre .pre .1 .0 .0)) (at-match .match .keys6)) ∙ at-step3 .step3 .ensures)
+    (raised-none (at-pre .pre .1 .0 .1) (at-match .match .keys6) refl)) (at-both .both .ensures))
     (λ c. let at-both2 = c .before .before in at-both2 .both2 .ensures .long)
-    (λ c. let at-both2 = c .before .before in let at-step4 = at-both2 .before .before in let at-match = at-step4 .before .before in let at-if1 = at-match .before .before .before .before .before in let at-pre = at-if1 .before .before in laid-by (walk-two _ _ _ _ (at-if1 .if1 .left) (dep-items (at-pre .pre .1 .0 .0) (at-match .match .keys7) (at-step4 .step4 .ensures _)) (raised-none (at-pre .pre .1 .0 .1) (at-match .match .keys7) refl)) (at-both2 .both2 .ensures))
+    (λ c. let at-both2 = c .before .before in let at-step4 = at-both2 .before .before in let at-match = at-step4 .before .before in let at-if1 =
+    at-match .before .before .before .before .before in let at-pre = at-if1 .before .before in laid-by
+    (walk-two _ _ _ _ (at-if1 .if1 .left) (dep-items (at-pre .pre .1 .0 .0) (at-match .match .keys7) (at-step4 .step4 .ensures _))
+    (raised-none (at-pre .pre .1 .0 .1) (at-match .match .keys7) refl)) (at-both2 .both2 .ensures))
     (λ c. let at-lay2 = c .before .before in at-lay2 .lay2 .ensures .long)
-    (λ c. let at-lay2 = c .before .before in let at-split = at-lay2 .before .before in let at-match = at-split .before in let at-if1 = at-match .before .before .before .before .before in let at-pre = at-if1 .before .before in laid-by (walk-same _ _ _ _ (at-if1 .if1 .left) (except-items (at-pre .pre .1 .0 .0) (at-match .match .keys8) (at-split .split .ensures)) (raised-none (at-pre .pre .1 .0 .1) (at-match .match .keys8) refl)) (at-lay2 .lay2 .ensures))
+    (λ c. let at-lay2 = c .before .before in let at-split = at-lay2 .before .before in let at-match = at-split .before in let at-if1 =
+    at-match .before .before .before .before .before in let at-pre = at-if1 .before .before in laid-by
+    (walk-same _ _ _ _ (at-if1 .if1 .left) (except-items (at-pre .pre .1 .0 .0) (at-match .match .keys8) (at-split .split .ensures))
+    (raised-none (at-pre .pre .1 .0 .1) (at-match .match .keys8) refl)) (at-lay2 .lay2 .ensures))
     (λ c. let at-lay3 = c .before .before in at-lay3 .lay3 .ensures .long)
-    (λ c. let at-lay3 = c .before .before in let at-match = at-lay3 .before .before in let at-if1 = at-match .before .before .before .before .before in let at-pre = at-if1 .before .before in laid-by (walk-same _ _ _ _ (at-if1 .if1 .left) (fix-items (at-pre .pre .1 .0 .0) (at-match .match .keys9)) (raised-none (at-pre .pre .1 .0 .1) (at-match .match .keys9) refl)) (at-lay3 .lay3 .ensures))
+    (λ c. let at-lay3 = c .before .before in let at-match = at-lay3 .before .before in let at-if1 = at-match .before .before .before .before .before in let
+    at-pre = at-if1 .before .before in laid-by (walk-same _ _ _ _ (at-if1 .if1 .left) (fix-items (at-pre .pre .1 .0 .0) (at-match .match .keys9))
+    (raised-none (at-pre .pre .1 .0 .1) (at-match .match .keys9) refl)) (at-lay3 .lay3 .ensures))
     (λ c. let at-lay4 = c .before .before in at-lay4 .lay4 .ensures .long)
-    (λ c. let at-lay4 = c .before .before in let at-match = at-lay4 .before .before in let at-if1 = at-match .before .before .before .before .before in let at-pre = at-if1 .before .before in laid-by (walk-same _ _ _ _ (at-if1 .if1 .left) (again-items (at-pre .pre .1 .0 .0) (at-match .match .keys10)) (raised-none (at-pre .pre .1 .0 .1) (at-match .match .keys10) refl)) (at-lay4 .lay4 .ensures))
+    (λ c. let at-lay4 = c .before .before in let at-match = at-lay4 .before .before in let at-if1 = at-match .before .before .before .before .before in let
+    at-pre = at-if1 .before .before in laid-by (walk-same _ _ _ _ (at-if1 .if1 .left) (again-items (at-pre .pre .1 .0 .0) (at-match .match .keys10))
+    (raised-none (at-pre .pre .1 .0 .1) (at-match .match .keys10) refl)) (at-lay4 .lay4 .ensures))
     (λ c. let at-pre = c .before .before .before .before .before .before .before in absurd (known (visited (at-pre .pre .1 .0 .0)) (c .match .rest))))
     (λ t. tagged-lts.spec (lay-below t, lay.Post) (tagged-at t) tagged.Post
     (λ c. laid-none _ _ (c .if1 .taken))
@@ -185,7 +248,18 @@ pub +both+lay+tagged-spec : {M : Type 1} → statement M
     (λ c. simp length-set (omega (arith, c .if1 .left)))
     (λ c. simp length-set (omega (arith, c .if1 .left)))
     (λ c. simp length-set (omega (arith, c .if1 .left)))
-    (λ c κs. let at-pre = c .before .before .before in let p = at-pre .pre in
-    (omega (arith, p .0), ((p .1 .0, raised-zero _ _), (p .1 .1 .0, omega (arith, p .1 .1 .1), p .1 .1 .1, lent-set (at-pre .args .s .tag) (at-pre .args .out .now) (p .1 .1 .2)))))
+    (λ c κs. let at-pre = c .before .before .before in let p = at-pre .pre in (
+      omega (arith, p .0),
+      (
+        (p .1 .0, raised-zero _ _),
+        (
+          p .1 .1 .0,
+          omega (arith, p .1 .1 .1),
+          p .1 .1 .1,
+          lent-set (at-pre .args .s .tag)
+              (at-pre .args .out .now) (p .1 .1 .2),
+        ),
+      ),
+    ))
     (λ c. tagged-one t c .long)
     (λ c. tagged-one t c))

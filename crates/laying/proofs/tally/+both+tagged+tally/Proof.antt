@@ -115,34 +115,61 @@ pub +both+tagged+tally-spec : {M : Type 1} → statement M
     (λ c κs. let at-pre = c .before .before .before .before .before .before in at-pre .pre .1 .1 .2)
     (λ c κs. let at-pre = c .before .before .before .before .before .before in at-pre .pre .1 .1 .2)
     (λ c. let at-if1 = c .before .before .before .before .before in omega (arith, at-if1 .if1 .left))
-    (λ c κs. let at-if1 = c .before .before .before .before .before in let at-pre = at-if1 .before in tally-part (at-pre .pre .0) (at-if1 .if1 .left) (at-pre .pre .1 .1) (next-by (at-pre .pre .1 .0) (shift-items (at-pre .pre .1 .0) (c .match .keys4)) .0))
+    (λ c κs. let at-if1 = c .before .before .before .before .before in let at-pre = at-if1 .before in tally-part (at-pre .pre .0) (at-if1 .if1 .left)
+    (at-pre .pre .1 .1) (next-by (at-pre .pre .1 .0) (shift-items (at-pre .pre .1 .0) (c .match .keys4)) .0))
     (λ c κs. let at-pre = c .before .before .before .before .before .before in let v = visited (at-pre .pre .1 .0) in parts-in v (or-lower v (c .match .keys5)))
     (λ c. let at-if1 = c .before .before .before .before .before .before in omega (arith, at-if1 .if1 .left))
-    (λ c κs. let at-if1 = c .before .before .before .before .before .before in let at-pre = at-if1 .before in tally-tagged (at-pre .pre .0) (at-if1 .if1 .left) (at-pre .pre .1 .1)
+    (λ c κs. let at-if1 = c .before .before .before .before .before .before in let at-pre = at-if1 .before in tally-tagged (at-pre .pre .0)
+    (at-if1 .if1 .left) (at-pre .pre .1 .1)
     (next-by (at-pre .pre .1 .0) (items-of (or-rule (visited (at-pre .pre .1 .0)) (c .before .match .keys5)) ∙ c .step .ensures) .0))
-    (λ c κs. let at-pre = c .before .before .before .before .before .before in let v = visited (at-pre .pre .1 .0) in let l = cons-lower v (c .match .keys6) in (parts-in v l, words-some v l))
+    (λ c κs. let at-pre = c .before .before .before .before .before .before in let v = visited (at-pre .pre .1 .0) in let l = cons-lower v (c .match .keys6)
+    in (parts-in v l, words-some v l))
     (λ c. let at-if1 = c .before .before .before .before .before .before in omega (arith, at-if1 .if1 .left))
-    (λ c κs. let at-if1 = c .before .before .before .before .before .before in let at-pre = at-if1 .before in let n = next-by (at-pre .pre .1 .0) (items-of (cons-rule (visited (at-pre .pre .1 .0)) (c .before .match .keys6)) ∙ c .step2 .ensures) in
+    (λ c κs. let at-if1 = c .before .before .before .before .before .before in let at-pre = at-if1 .before in let n = next-by (at-pre .pre .1 .0)
+    (items-of (cons-rule (visited (at-pre .pre .1 .0)) (c .before .match .keys6)) ∙ c .step2 .ensures) in
     tally-both (at-pre .pre .0) (at-if1 .if1 .left) (at-pre .pre .1 .1) (n .0) (n .1 .0))
-    (λ c κs. let at-pre = c .before .before .before .before .before .before .before in ((choosing (visited (at-pre .pre .1 .0)) (c .before .match .keys7) .words, at-pre .pre .1 .0 .walks .slight), dep-low (at-pre .pre .1 .0) (c .before .match .keys7)))
+    (λ c κs. let at-pre = c .before .before .before .before .before .before .before in (
+      (
+        choosing (visited (at-pre .pre .1 .0))
+            (c .before .match .keys7) .words,
+        at-pre .pre .1 .0 .walks .slight,
+      ),
+      dep-low (at-pre .pre .1 .0) (c .before .match .keys7),
+    ))
     (λ c. let at-if1 = c .before .before .before .before .before .before .before in omega (arith, at-if1 .if1 .left))
-    (λ c κs. let at-match = c .before .before in let at-if1 = at-match .before .before .before .before .before in let at-pre = at-if1 .before in let n = next-by (at-pre .pre .1 .0) (dep-items (at-pre .pre .1 .0) (at-match .match .keys7) (c .step3 .ensures _)) in
+    (λ c κs. let at-match = c .before .before in let at-if1 = at-match .before .before .before .before .before in let at-pre = at-if1 .before in let n =
+    next-by (at-pre .pre .1 .0) (dep-items (at-pre .pre .1 .0) (at-match .match .keys7) (c .step3 .ensures _)) in
     tally-both (at-pre .pre .0) (at-if1 .if1 .left) (at-pre .pre .1 .1) (n .0) (n .1 .0))
     (λ c κs. let at-pre = c .before .before .before .before .before .before in omega (arith, at-pre .pre .1 .1 .0))
     (λ c. let at-if1 = c .before .before .before .before .before .before in omega (arith, at-if1 .if1 .left))
-    (λ c κs. let at-if1 = c .before .before .before .before .before .before in let at-pre = at-if1 .before in tally-part (at-pre .pre .0) (at-if1 .if1 .left) (at-pre .pre .1 .1) (next-by (at-pre .pre .1 .0) (except-items (at-pre .pre .1 .0) (c .before .match .keys8) (c .split .ensures)) .0))
+    (λ c κs. let at-if1 = c .before .before .before .before .before .before in let at-pre = at-if1 .before in tally-part (at-pre .pre .0) (at-if1 .if1 .left)
+    (at-pre .pre .1 .1) (next-by (at-pre .pre .1 .0) (except-items (at-pre .pre .1 .0) (c .before .match .keys8) (c .split .ensures)) .0))
     (λ c. let at-if1 = c .before .before .before .before .before in omega (arith, at-if1 .if1 .left))
-    (λ c κs. let at-if1 = c .before .before .before .before .before in let at-pre = at-if1 .before in tally-part (at-pre .pre .0) (at-if1 .if1 .left) (at-pre .pre .1 .1) (next-by (at-pre .pre .1 .0) (fix-items (at-pre .pre .1 .0) (c .match .keys9)) .0))
+    (λ c κs. let at-if1 = c .before .before .before .before .before in let at-pre = at-if1 .before in tally-part (at-pre .pre .0) (at-if1 .if1 .left)
+    (at-pre .pre .1 .1) (next-by (at-pre .pre .1 .0) (fix-items (at-pre .pre .1 .0) (c .match .keys9)) .0))
     (λ c. let at-if1 = c .before .before .before .before .before in omega (arith, at-if1 .if1 .left))
-    (λ c κs. let at-if1 = c .before .before .before .before .before in let at-pre = at-if1 .before in tally-part (at-pre .pre .0) (at-if1 .if1 .left) (at-pre .pre .1 .1) (next-by (at-pre .pre .1 .0) (again-items (at-pre .pre .1 .0) (c .match .keys10)) .0))
-    (λ c. let at-if1 = c .before .before .before .before .before .before in let at-pre = at-if1 .before in tally-any _ (walk-cell _ _ _ _ (at-if1 .if1 .left) (below-items (at-pre .pre .1 .0) (c .before .match .keys1)) refl) (c .one .ensures))
-    (λ c. let at-if1 = c .before .before .before .before .before .before in let at-pre = at-if1 .before in tally-any _ (walk-cell _ _ _ _ (at-if1 .if1 .left) (nats-items (at-pre .pre .1 .0) (c .before .match .keys2)) refl) (c .one2 .ensures))
-    (λ c. let at-if1 = c .before .before .before .before .before .before in let at-pre = at-if1 .before in tally-any _ (walk-cell _ _ _ _ (at-if1 .if1 .left) (pool-items (at-pre .pre .1 .0) (c .before .match .keys3) refl) refl) (c .one3 .ensures))
-    (λ c. let at-if1 = c .before .before .before .before .before .before in let at-pre = at-if1 .before in tally-up _ _ _ _ _ _ (walk-pass _ _ _ _ (at-if1 .if1 .left) (shift-items (at-pre .pre .1 .0) (c .before .match .keys4)) refl) (c .tally .ensures))
-    (λ c. let at-match = c .before .before in let at-if1 = at-match .before .before .before .before .before in let at-pre = at-if1 .before in tally-any _ (walk-tag _ _ _ _ (at-if1 .if1 .left) (items-of (or-rule (visited (at-pre .pre .1 .0)) (at-match .match .keys5)) ∙ c .before .step .ensures) refl) (c .tagged .ensures))
-    (λ c. let at-match = c .before .before in let at-if1 = at-match .before .before .before .before .before in let at-pre = at-if1 .before in tally-by _ (walk-two _ _ _ _ (at-if1 .if1 .left) (items-of (cons-rule (visited (at-pre .pre .1 .0)) (at-match .match .keys6)) ∙ c .before .step2 .ensures) refl) (c .both .ensures))
-    (λ c. let at-match = c .before .before .before in let at-if1 = at-match .before .before .before .before .before in let at-pre = at-if1 .before in tally-by _ (walk-two _ _ _ _ (at-if1 .if1 .left) (dep-items (at-pre .pre .1 .0) (at-match .match .keys7) (c .before .step3 .ensures _)) refl) (c .both2 .ensures))
-    (λ c. let at-match = c .before .before in let at-if1 = at-match .before .before .before .before .before in let at-pre = at-if1 .before in tally-by _ (walk-pass _ _ _ _ (at-if1 .if1 .left) (except-items (at-pre .pre .1 .0) (at-match .match .keys8) (c .before .split .ensures)) refl) (c .tally2 .ensures))
-    (λ c. let at-if1 = c .before .before .before .before .before .before in let at-pre = at-if1 .before in tally-by _ (walk-pass _ _ _ _ (at-if1 .if1 .left) (fix-items (at-pre .pre .1 .0) (c .before .match .keys9)) refl) (c .tally3 .ensures))
-    (λ c. let at-if1 = c .before .before .before .before .before .before in let at-pre = at-if1 .before in tally-by _ (walk-pass _ _ _ _ (at-if1 .if1 .left) (again-items (at-pre .pre .1 .0) (c .before .match .keys10)) refl) (c .tally4 .ensures))
+    (λ c κs. let at-if1 = c .before .before .before .before .before in let at-pre = at-if1 .before in tally-part (at-pre .pre .0) (at-if1 .if1 .left)
+    (at-pre .pre .1 .1) (next-by (at-pre .pre .1 .0) (again-items (at-pre .pre .1 .0) (c .match .keys10)) .0))
+    (λ c. let at-if1 = c .before .before .before .before .before .before in let at-pre = at-if1 .before in tally-any _
+    (walk-cell _ _ _ _ (at-if1 .if1 .left) (below-items (at-pre .pre .1 .0) (c .before .match .keys1)) refl) (c .one .ensures))
+    (λ c. let at-if1 = c .before .before .before .before .before .before in let at-pre = at-if1 .before in tally-any _
+    (walk-cell _ _ _ _ (at-if1 .if1 .left) (nats-items (at-pre .pre .1 .0) (c .before .match .keys2)) refl) (c .one2 .ensures))
+    (λ c. let at-if1 = c .before .before .before .before .before .before in let at-pre = at-if1 .before in tally-any _
+    (walk-cell _ _ _ _ (at-if1 .if1 .left) (pool-items (at-pre .pre .1 .0) (c .before .match .keys3) refl) refl) (c .one3 .ensures))
+    (λ c. let at-if1 = c .before .before .before .before .before .before in let at-pre = at-if1 .before in tally-up _ _ _ _ _ _
+    (walk-pass _ _ _ _ (at-if1 .if1 .left) (shift-items (at-pre .pre .1 .0) (c .before .match .keys4)) refl) (c .tally .ensures))
+    (λ c. let at-match = c .before .before in let at-if1 = at-match .before .before .before .before .before in let at-pre = at-if1 .before in tally-any _
+    (walk-tag _ _ _ _ (at-if1 .if1 .left) (items-of (or-rule (visited (at-pre .pre .1 .0)) (at-match .match .keys5)) ∙ c .before .step .ensures) refl)
+    (c .tagged .ensures))
+    (λ c. let at-match = c .before .before in let at-if1 = at-match .before .before .before .before .before in let at-pre = at-if1 .before in tally-by _
+    (walk-two _ _ _ _ (at-if1 .if1 .left) (items-of (cons-rule (visited (at-pre .pre .1 .0)) (at-match .match .keys6)) ∙ c .before .step2 .ensures) refl)
+    (c .both .ensures))
+    (λ c. let at-match = c .before .before .before in let at-if1 = at-match .before .before .before .before .before in let at-pre = at-if1 .before in tally-by
+    _ (walk-two _ _ _ _ (at-if1 .if1 .left) (dep-items (at-pre .pre .1 .0) (at-match .match .keys7) (c .before .step3 .ensures _)) refl) (c .both2 .ensures))
+    (λ c. let at-match = c .before .before in let at-if1 = at-match .before .before .before .before .before in let at-pre = at-if1 .before in tally-by _
+    (walk-pass _ _ _ _ (at-if1 .if1 .left) (except-items (at-pre .pre .1 .0) (at-match .match .keys8) (c .before .split .ensures)) refl) (c .tally2 .ensures))
+    (λ c. let at-if1 = c .before .before .before .before .before .before in let at-pre = at-if1 .before in tally-by _
+    (walk-pass _ _ _ _ (at-if1 .if1 .left) (fix-items (at-pre .pre .1 .0) (c .before .match .keys9)) refl) (c .tally3 .ensures))
+    (λ c. let at-if1 = c .before .before .before .before .before .before in let at-pre = at-if1 .before in tally-by _
+    (walk-pass _ _ _ _ (at-if1 .if1 .left) (again-items (at-pre .pre .1 .0) (c .before .match .keys10)) refl) (c .tally4 .ensures))
     (λ c. let at-pre = c .before .before .before .before .before .before in absurd (known (visited (at-pre .pre .1 .0)) (c .match .rest))))

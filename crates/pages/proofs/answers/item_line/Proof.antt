@@ -17,4 +17,5 @@ item-line-spec =
     (λ c κs. search needs)
     (λ c. search needs)
     (λ c κs. search needs)
-    (λ c. c .before .before .before .before .before .before .before .before .number .ensures then c .before .before .before .before .before .put-text .ensures then c .before .before .before .put-number .ensures then c .put-text2 .ensures))
+    (λ c. c .before .before .before .before .before .before .before .before .number .ensures then c .before .before .before .before .before .put-text .ensures
+    then c .before .before .before .put-number .ensures then c .put-text2 .ensures))

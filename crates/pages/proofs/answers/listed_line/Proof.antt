@@ -19,4 +19,5 @@ listed-line-spec =
     (λ c. simp length-take (omega arith))
     (λ c κs. search needs)
     (λ c κs. search needs)
-    (λ c. c .before .before .before .before .before .before .before .before .put-number .ensures then c .before .before .before .before .before .put-text .ensures then c .before .before .put-numbers .ensures then c .end-line .ensures))
+    (λ c. c .before .before .before .before .before .before .before .before .put-number .ensures then
+    c .before .before .before .before .before .put-text .ensures then c .before .before .put-numbers .ensures then c .end-line .ensures))

@@ -18,4 +18,6 @@ refused-spec =
     (λ c. search needs)
     (λ c κs. search needs)
     (λ c κs. search needs)
-    (λ c. c .before .before .before .before .before .before .before .before .put-text .ensures then rw (c .before .before .before .before .before .before .number-of .ensures) at (c .before .before .before .before .before .put-number .ensures) then c .before .before .put-text2 .ensures then c .put-number2 .ensures))
+    (λ c. c .before .before .before .before .before .before .before .before .put-text .ensures then rw
+    (c .before .before .before .before .before .before .number-of .ensures) at (c .before .before .before .before .before .put-number .ensures) then
+    c .before .before .put-text2 .ensures then c .put-number2 .ensures))

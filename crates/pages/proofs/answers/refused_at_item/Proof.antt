@@ -16,4 +16,5 @@ refused-at-item-spec =
     (λ c κs. search needs)
     (λ c κs. search needs)
     (λ c κs. search needs)
-    (λ c. c .before .before .before .before .before .before .before .refused .ensures then c .before .before .before .before .put-text .ensures then c .before .before .put-number .ensures then c .end-line .ensures))
+    (λ c. c .before .before .before .before .before .before .before .refused .ensures then c .before .before .before .before .put-text .ensures then
+    c .before .before .put-number .ensures then c .end-line .ensures))

@@ -14,9 +14,20 @@ put-number-spec =
     (λ c. search needs)
     (λ c κs. search needs)
     (λ c. search needs)
-    (λ c. omega (arith, digits-fit (c .before .before .before .before .before .before .before .args .n) (c .before .before .before .before .before .put-number .ensures) (c .before .before .size .given .1)))
-    (λ c. simp length-take (omega (arith, digits-fit (c .before .before .before .before .before .before .before .before .args .n) (c .before .before .before .before .before .before .put-number .ensures) (c .before .before .before .size .given .1))))
+    (λ c. omega (
+      arith,
+      digits-fit (c .before .before .before .before .before .before .before .args .n)
+          (c .before .before .before .before .before .put-number .ensures) (c .before .before .size .given .1),
+    ))
+    (λ c. simp length-take (omega (
+      arith,
+      digits-fit (c .before .before .before .before .before .before .before .before .args .n)
+          (c .before .before .before .before .before .before .put-number .ensures) (c .before .before .before .size .given .1),
+    )))
     (λ c κs. search needs)
     (λ c. search needs)
-    (λ c. rw (digits-front (c .before .before .before .before .before .before .before .before .before .args .n) (c .before .before .before .before .before .before .before .put-number .ensures) (c .before .before .before .before .size .given .1)) at (c .put-text .ensures))
-    (λ c. absurd (digits-none (c .before .before .before .before .before .args .n) (c .before .before .before .put-number .ensures) (c .enum-told .given .1) (omega arith) (omega arith))))
+    (λ c. rw (digits-front (c .before .before .before .before .before .before .before .before .before .args .n)
+    (c .before .before .before .before .before .before .before .put-number .ensures) (c .before .before .before .before .size .given .1)) at
+    (c .put-text .ensures))
+    (λ c. absurd (digits-none (c .before .before .before .before .before .args .n) (c .before .before .before .put-number .ensures) (c .enum-told .given .1)
+    (omega arith) (omega arith))))

@@ -28,5 +28,6 @@ put-numbers-spec =
     (λ c κs. search needs)
     (λ c. search needs)
     (λ c. omega arith)
-    (λ c. list-more (c .before .before .before .before .before .before .before .loop .inv) (c .before .before .before .before .before .before .loop-test .taken) (c .before .before .before .put-text .ensures) (c .put-number .ensures))
+    (λ c. list-more (c .before .before .before .before .before .before .before .loop .inv)
+    (c .before .before .before .before .before .before .loop-test .taken) (c .before .before .before .put-text .ensures) (c .put-number .ensures))
     (λ c. list-all (c .before .loop .inv) (c .loop-test .left)))

@@ -15,4 +15,5 @@ judge-spec =
     (λ c. search needs)
     (λ c κs. search needs)
     (λ c. judge-cases (c .before .before .start .ensures) (c .enum-told .given .1))
-    (λ c. judge-refused (c .before .before .before .before .before .start .ensures) (c .before .before .before .r .given .1) (omega arith) (omega arith) (c .put-refused .ensures)))
+    (λ c. judge-refused (c .before .before .before .before .before .start .ensures) (c .before .before .before .r .given .1) (omega arith) (omega arith)
+    (c .put-refused .ensures)))

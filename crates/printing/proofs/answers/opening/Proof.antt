@@ -13,11 +13,21 @@ opening-spec =
     (tie.spec
     (λ c κs. search needs)
     (λ c. search needs)
-    (λ c. simp length-take (omega (arith, table-fits (c .before .before .before .before .before .before .before .before .read-input .ensures) (c .before .before .before .before .before .before .table-count .given .1))))
-    (λ c. simp length-take (omega (arith, pool-fits (c .before .before .before .before .before .before .before .before .before .read-input .ensures) (c .before .before .before .before .before .before .before .table-count .given .1))))
+    (λ c. simp length-take (omega (
+      arith,
+      table-fits (c .before .before .before .before .before .before .before .before .read-input .ensures)
+          (c .before .before .before .before .before .before .table-count .given .1),
+    )))
+    (λ c. simp length-take (omega (
+      arith,
+      pool-fits (c .before .before .before .before .before .before .before .before .before .read-input .ensures)
+          (c .before .before .before .before .before .before .before .table-count .given .1),
+    )))
     (λ c κs. search needs)
     (λ c. search needs)
     (λ c. search needs)
     (λ c κs. search needs)
-    (λ c. opens-judged (c .before .before .before .before .before .before .before .before .before .before .before .read-input .ensures) (c .before .before .before .before .before .before .before .before .before .table-count .given .1) (c .judge .ensures))
-    (λ c. opens-unclear (c .before .before .before .before .before .read-input .ensures) (c .before .before .before .enum-told .given .1) (omega arith) (c .put-text .ensures)))
+    (λ c. opens-judged (c .before .before .before .before .before .before .before .before .before .before .before .read-input .ensures)
+    (c .before .before .before .before .before .before .before .before .before .table-count .given .1) (c .judge .ensures))
+    (λ c. opens-unclear (c .before .before .before .before .before .read-input .ensures) (c .before .before .before .enum-told .given .1) (omega arith)
+    (c .put-text .ensures)))

@@ -20,5 +20,7 @@ put-answer-spec =
     (λ c κs. line-fits (c .before .before .before .before .before .before .write .ensures) (omega arith) _ (c .before .before .before .count .given .1))
     (λ c. search needs)
     (λ c κs. search needs)
-    (λ c. line-done (c .before .before .before .before .before .before .before .write .ensures) (omega arith) _ (c .before .before .before .before .count .given .1) (c .put-done .ensures))
-    (λ c. line-refused (c .before .before .before .before .before .before .write .ensures) (omega arith) (c .before .before .before .r .given .1) (omega arith) (omega arith) (c .put-case-refused .ensures)))
+    (λ c. line-done (c .before .before .before .before .before .before .before .write .ensures) (omega arith) _
+    (c .before .before .before .before .count .given .1) (c .put-done .ensures))
+    (λ c. line-refused (c .before .before .before .before .before .before .write .ensures) (omega arith) (c .before .before .before .r .given .1)
+    (omega arith) (omega arith) (c .put-case-refused .ensures)))

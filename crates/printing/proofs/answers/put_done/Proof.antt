@@ -11,4 +11,5 @@ put-done-spec =
     tie.close
     (tie.spec
     (λ c κs. search needs)
-    (λ c. done-whole _ _ (omega arith) (λ j. omega (arith, c .before .before .shared-slice-known .given j)) (c .before .before .before .pre) (omega arith) (c .put-case .ensures)))
+    (λ c. done-whole _ _ (omega arith) (λ j. omega (arith, c .before .before .shared-slice-known .given j)) (c .before .before .before .pre) (omega arith)
+    (c .put-case .ensures)))

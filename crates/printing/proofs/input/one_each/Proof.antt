@@ -23,8 +23,14 @@ one-each-spec =
     (λ c. pass-start)
     (λ c κs. search needs)
     (λ c. search needs)
-    (λ c. omega (arith, pass-less (c .before .before .before .before .before .loop .inv) (c .before .before .before .before .loop-test .taken) (c .before .before .before .one-at .ensures) (c .before .next .given .1)))
-    (λ c. pass-more (c .before .before .before .before .before .loop .inv) (c .before .before .before .before .loop-test .taken) (c .before .before .before .one-at .ensures) (c .before .next .given .1))
+    (λ c. omega (
+      arith,
+      pass-less (c .before .before .before .before .before .loop .inv) (c .before .before .before .before .loop-test .taken)
+          (c .before .before .before .one-at .ensures) (c .before .next .given .1),
+    ))
+    (λ c. pass-more (c .before .before .before .before .before .loop .inv) (c .before .before .before .before .loop-test .taken)
+    (c .before .before .before .one-at .ensures) (c .before .next .given .1))
     (λ c. search needs)
-    (λ c. pass-not (c .before .before .before .before .loop .inv) (c .before .before .before .loop-test .taken) (c .before .before .one-at .ensures) (c .enum-told .given .1))
+    (λ c. pass-not (c .before .before .before .before .loop .inv) (c .before .before .before .loop-test .taken) (c .before .before .one-at .ensures)
+    (c .enum-told .given .1))
     (λ c. pass-end (c .before .loop .inv) (c .loop-test .left)))

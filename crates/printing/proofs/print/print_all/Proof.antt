@@ -21,7 +21,11 @@ print-all-spec =
     (λ c. omega (arith, table-fits (c .before .before .before .opening .ensures) _ _ _ _ (c .before .table-count .given .1)))
     (λ c. simp length-take (omega (arith, table-fits (c .before .before .before .before .opening .ensures) _ _ _ _ (c .before .before .table-count .given .1))))
     (λ c. omega (arith, pool-fits (c .before .before .before .before .opening .ensures) _ _ _ _ (c .before .before .table-count .given .1)))
-    (λ c. simp length-take (omega (arith, pool-fits (c .before .before .before .before .before .opening .ensures) _ _ _ _ (c .before .before .before .table-count .given .1))))
+    (λ c. simp length-take (omega (
+      arith,
+      pool-fits (c .before .before .before .before .before .opening .ensures) _ _ _ _
+          (c .before .before .before .table-count .given .1),
+    )))
     (λ c κs. left-all (c .before .before .before .before .before .before .opening .ensures) _ _ _ _ (c .before .before .before .before .table-count .given .1))
     (λ c. search needs)
     (λ c. search needs))

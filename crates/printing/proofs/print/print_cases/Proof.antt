@@ -25,10 +25,19 @@ print-cases-spec =
     (λ c. c .before .before .before .pre)
     (λ c κs. c .before .loop .inv)
     (λ c. search needs)
-    (λ c. simp length-take (omega (arith, line-fits (c .before .before .before .before .before .before .answer-at .ensures) (c .before .before .before .before .size .given .1))))
+    (λ c. simp length-take (omega (
+      arith,
+      line-fits (c .before .before .before .before .before .before .answer-at .ensures)
+          (c .before .before .before .before .size .given .1),
+    )))
     (λ c κs. search needs)
     (λ c. search needs)
-    (λ c. omega (arith, line-further (c .before .before .before .before .before .before .before .before .answer-at .ensures) (c .before .before .before .before .before .before .size .given .1)))
-    (λ c. left-further (c .before .before .before .before .before .before .before .before .before .before .loop .inv) (c .before .before .before .before .before .before .before .before .answer-at .ensures) (c .before .before .before .before .before .before .size .given .1))
+    (λ c. omega (
+      arith,
+      line-further (c .before .before .before .before .before .before .before .before .answer-at .ensures)
+          (c .before .before .before .before .before .before .size .given .1),
+    ))
+    (λ c. left-further (c .before .before .before .before .before .before .before .before .before .before .loop .inv)
+    (c .before .before .before .before .before .before .before .before .answer-at .ensures) (c .before .before .before .before .before .before .size .given .1))
     (λ c. search needs)
     (λ c. search needs))

@@ -35,7 +35,12 @@ put-line-spec =
     (λ c. omega (arith, within (c .before .before .before .loop .inv .fills), same (c .before .before .before .loop .inv .fills)))
     (λ c. omega (arith, within (c .before .before .before .loop .inv .fills), same (c .before .before .before .loop .inv .fills)))
     (λ c κs. search needs)
-    (λ c. omega (arith, within (line-more (c .before .before .before .before .before .before .before .loop .inv) refl (omega arith) (c .before .before .put-with .ensures) .fills), c .before .before .before .before .before .before .before .before .before .before .before .good))
+    (λ c. omega (
+      arith,
+      within (line-more (c .before .before .before .before .before .before .before .loop .inv) refl (omega arith)
+          (c .before .before .put-with .ensures) .fills),
+      c .before .before .before .before .before .before .before .before .before .before .before .good,
+    ))
     (λ c. search needs)
     (λ c. search needs)
     (λ c. line-more (c .before .before .before .before .before .before .before .loop .inv) refl (omega arith) (c .before .before .put-with .ensures))
@@ -46,6 +51,11 @@ put-line-spec =
     (λ c. omega (arith, within (c .before .before .before .loop .inv .fills), same (c .before .before .before .loop .inv .fills)))
     (λ c. omega (arith, within (c .before .before .before .loop .inv .fills), same (c .before .before .before .loop .inv .fills)))
     (λ c κs. search needs)
-    (λ c. omega (arith, within (line-end (c .before .before .before .before .before .before .before .loop .inv) refl (omega arith) (c .before .before .put-with2 .ensures)), c .before .before .before .before .before .before .before .before .before .before .before .good))
+    (λ c. omega (
+      arith,
+      within (line-end (c .before .before .before .before .before .before .before .loop .inv) refl (omega arith)
+          (c .before .before .put-with2 .ensures)),
+      c .before .before .before .before .before .before .before .before .before .before .before .good,
+    ))
     (λ c. same (line-end (c .before .before .before .before .before .before .before .loop .inv) refl (omega arith) (c .before .before .put-with2 .ensures)))
     (λ c. line-end (c .before .before .before .before .before .before .before .loop .inv) refl (omega arith) (c .before .before .put-with2 .ensures)))

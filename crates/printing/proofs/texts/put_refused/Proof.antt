@@ -21,12 +21,38 @@ put-refused-spec =
     (λ c. omega (arith, within (c .before .before .before .before .put-text .ensures), same (c .before .before .before .before .put-text .ensures)))
     (λ c. omega (arith, within (c .before .before .before .before .put-text .ensures), same (c .before .before .before .before .put-text .ensures)))
     (λ c κs. search needs)
-    (λ c. omega (arith, within (then (c .before .before .before .before .before .before .before .before .put-text .ensures) (c .before .before .put-with .ensures) refl), c .before .before .before .before .before .before .before .before .before .before .before .before .good))
+    (λ c. omega (
+      arith,
+      within (then (c .before .before .before .before .before .before .before .before .put-text .ensures)
+          (c .before .before .put-with .ensures) refl),
+      c .before .before .before .before .before .before .before .before .before .before .before .before .good,
+    ))
     (λ c. search needs)
-    (λ c. omega (arith, within (then (c .before .before .before .before .before .before .before .before .before .put-text .ensures) (c .before .before .before .put-with .ensures) refl), same (then (c .before .before .before .before .before .before .before .before .before .put-text .ensures) (c .before .before .before .put-with .ensures) refl)))
-    (λ c. omega (arith, within (then (c .before .before .before .before .before .before .before .before .before .put-text .ensures) (c .before .before .before .put-with .ensures) refl), same (then (c .before .before .before .before .before .before .before .before .before .put-text .ensures) (c .before .before .before .put-with .ensures) refl)))
-    (λ c. omega (arith, within (then (c .before .before .before .before .before .before .before .before .before .put-text .ensures) (c .before .before .before .put-with .ensures) refl), same (then (c .before .before .before .before .before .before .before .before .before .put-text .ensures) (c .before .before .before .put-with .ensures) refl)))
+    (λ c. omega (
+      arith,
+      within (then (c .before .before .before .before .before .before .before .before .before .put-text .ensures)
+          (c .before .before .before .put-with .ensures) refl),
+      same
+          (then (c .before .before .before .before .before .before .before .before .before .put-text .ensures) (c .before .before .before .put-with .ensures) refl),
+    ))
+    (λ c. omega (
+      arith,
+      within (then (c .before .before .before .before .before .before .before .before .before .put-text .ensures)
+          (c .before .before .before .put-with .ensures) refl),
+      same
+          (then (c .before .before .before .before .before .before .before .before .before .put-text .ensures) (c .before .before .before .put-with .ensures) refl),
+    ))
+    (λ c. omega (
+      arith,
+      within (then (c .before .before .before .before .before .before .before .before .before .put-text .ensures)
+          (c .before .before .before .put-with .ensures) refl),
+      same
+          (then (c .before .before .before .before .before .before .before .before .before .put-text .ensures) (c .before .before .before .put-with .ensures) refl),
+    ))
     (λ c κs. search needs)
     (λ c. omega (arith, within (then (then (c .before .before .before .before .before .before .before .before .before .before .before .before .before .put-text .ensures) (c .before .before .before .before .before .before .before .put-with .ensures) refl) (c .before .before .put-with2 .ensures) refl), c .before .before .before .before .before .before .before .before .before .before .before .before .before .before .before .before .before .good))
-    (λ c. same (then (then (c .before .before .before .before .before .before .before .before .before .before .before .before .before .put-text .ensures) (c .before .before .before .before .before .before .before .put-with .ensures) refl) (c .before .before .put-with2 .ensures) refl))
-    (λ c. rw (c .before .before .before .before .before .before .before .before .before .before .number-of .ensures) at (then (then (c .before .before .before .before .before .before .before .before .before .before .before .before .before .put-text .ensures) (c .before .before .before .before .before .before .before .put-with .ensures) refl) (c .before .before .put-with2 .ensures) refl)))
+    (λ c. same (then (then (c .before .before .before .before .before .before .before .before .before .before .before .before .before .put-text .ensures)
+    (c .before .before .before .before .before .before .before .put-with .ensures) refl) (c .before .before .put-with2 .ensures) refl))
+    (λ c. rw (c .before .before .before .before .before .before .before .before .before .before .number-of .ensures) at
+    (then (then (c .before .before .before .before .before .before .before .before .before .before .before .before .before .put-text .ensures)
+    (c .before .before .before .before .before .before .before .put-with .ensures) refl) (c .before .before .put-with2 .ensures) refl)))

@@ -16,6 +16,10 @@ put-with-spec =
     (λ c. omega (arith, within (c .before .before .put-decimal .ensures), same (c .before .before .put-decimal .ensures)))
     (λ c. omega (arith, within (c .before .before .put-decimal .ensures), same (c .before .before .put-decimal .ensures)))
     (λ c κs. search needs)
-    (λ c. omega (arith, within (then (c .before .before .before .before .before .before .put-decimal .ensures) (c .before .before .put-text .ensures) refl), c .before .before .before .before .before .before .before .before .before .before .good))
+    (λ c. omega (
+      arith,
+      within (then (c .before .before .before .before .before .before .put-decimal .ensures) (c .before .before .put-text .ensures) refl),
+      c .before .before .before .before .before .before .before .before .before .before .good,
+    ))
     (λ c. same (then (c .before .before .before .before .before .before .put-decimal .ensures) (c .before .before .put-text .ensures) refl))
     (λ c. then (c .before .before .before .before .before .before .put-decimal .ensures) (c .before .before .put-text .ensures) refl))

@@ -63,7 +63,13 @@ use Rattle.rows.proofs.reader.read_at.Statement as stated
 use Rattle.rows.proofs.reader.read_at.Code as code
 
 abbrev stayed : Stays (read.ended .signature .params) (read.ended .kept)
-stayed = (stay-none-slice (0 ∷ []) tt (plain (λ _. u64)) yes, (stay-none-slice (1 ∷ []) tt (plain (λ _. u64)) yes, (stay-none (λ _. usize) yes, (stay-none-slice (2 ∷ []) tt (plain (λ _. u64)) yes, (stay-none (λ _. usize) yes, tt)))))
+stayed = (
+  stay-none-slice (0 ∷ []) tt (plain (λ _. u64)) yes,
+  (
+    stay-none-slice (1 ∷ []) tt (plain (λ _. u64)) yes,
+    (stay-none (λ _. usize) yes, (stay-none-slice (2 ∷ []) tt (plain (λ _. u64)) yes, (stay-none (λ _. usize) yes, tt))),
+  ),
+)
 
 -- an answer and a place are a stride
 stride-is : (n n′ : Next) (b b′ : ℕ) → n ≡ n′ → b ≡ b′ → _≡_ {A = Stride} (record { answer = n; at = b }) (record { answer = n′; at = b′ })
@@ -73,7 +79,8 @@ stride-is n n′ b b′ e e′ = cc
 abbrev StepC : {M : Type 1} (𝓤 : URA M) (H : Heap 𝓤) (A : Atoms 𝓤) (mem : Memory → SProp 𝓤) (run : Routine → Fun 𝓤) → Contract 𝓤
 StepC 𝓤 H A mem run = tripleOf 𝓤 H A step.signature (step.spec 𝓤 H A mem run)
 
-module _ {M : Type 1} (𝓤 : URA M) (H : Heap 𝓤) (A : Atoms 𝓤) (W : Given 𝓤 H A) (at-mem : Memory → SProp 𝓤) (run : Routine → Fun 𝓤) (κt κp κ : Lft) (qt qp q : Share) (t p : RefT (List ℕ)) (st : ℕ) (st-fits : st < 2 ^ 64) (s : RefT (List ℕ)) (a : ℕ) (a-fits : a < 2 ^ 64) where
+module _ {M : Type 1} (𝓤 : URA M) (H : Heap 𝓤) (A : Atoms 𝓤) (W : Given 𝓤 H A) (at-mem : Memory → SProp 𝓤) (run : Routine → Fun 𝓤) (κt κp κ : Lft)
+    (qt qp q : Share) (t p : RefT (List ℕ)) (st : ℕ) (st-fits : st < 2 ^ 64) (s : RefT (List ℕ)) (a : ℕ) (a-fits : a < 2 ^ 64) where
   -- the machine values
   abbrev tv : Val
   tv = sliceVal (t .ptr) (length (t .now))
@@ -137,16 +144,19 @@ module _ {M : Type 1} (𝓤 : URA M) (H : Heap 𝓤) (A : Atoms 𝓤) (W : Given
       -- [row, at; row; start; pool; table]
       move ! (2 ∷ 0 ∷ []) $ fjoin ! $ move ! (2 ∷ 0 ∷ []) $ fjoin ! $ move ! (2 ∷ 0 ∷ []) $ fjoin ! $
       -- [All; row]
-      nothing ! $ owned ! usize (Is usize) (uint-makes 𝓤 H A W w64) a _ (refl, a-fits) $ fjoin ! $ move ! (2 ∷ 0 ∷ []) $ fjoin ! $ use1 W (‵ OwnR) (own-shut 𝓤 H A W (T.the-type α′) (T′.the-laws α′) (s, (a, tt))) $ frame ! $ done !
+      nothing ! $ owned ! usize (Is usize) (uint-makes 𝓤 H A W w64) a _ (refl, a-fits) $ fjoin ! $ move ! (2 ∷ 0 ∷ []) $ fjoin ! $ use1 W (‵ OwnR)
+      (own-shut 𝓤 H A W (T.the-type α′) (T′.the-laws α′) (s, (a, tt))) $ frame ! $ done !
 
   for-step : ent 𝓤 (sem 𝓤 H A All) (sep 𝓤 (sem 𝓤 H A Rest) (sem 𝓤 H A All))
   for-step =
-      qed W (‵ All ∷ []) ∵ fsplit ! $ use1 W (‵ OwnT ⊛ ‵ OwnT) (shr-slice-copy 𝓤 H A W (named 0) κt u64 .twice t (tv ∷ [])) $ split ! $ move ! (2 ∷ []) $ fsplit ! $
+      qed W (‵ All ∷ []) ∵ fsplit ! $ use1 W (‵ OwnT ⊛ ‵ OwnT) (shr-slice-copy 𝓤 H A W (named 0) κt u64 .twice t (tv ∷ [])) $ split ! $ move ! (2 ∷ []) $
+      fsplit ! $
       use1 W (‵ OwnP ⊛ ‵ OwnP) (shr-slice-copy 𝓤 H A W (named 1) κp u64 .twice p (pv ∷ [])) $ split ! $
       -- [pool; pool; the others; table; table]
       move ! (0 ∷ 2 ∷ []) $ fjoin ! $ move ! (2 ∷ 0 ∷ []) $ fjoin ! $
       -- [All; pool; table]
-      nothing ! $ owned ! usize (Is usize) (uint-makes 𝓤 H A W w64) st _ (refl, st-fits) $ fjoin ! $ move ! (2 ∷ 0 ∷ []) $ fjoin ! $ move ! (2 ∷ 0 ∷ []) $ fjoin ! $ frame ! $ done !
+      nothing ! $ owned ! usize (Is usize) (uint-makes 𝓤 H A W w64) st _ (refl, st-fits) $ fjoin ! $ move ! (2 ∷ 0 ∷ []) $ fjoin ! $ move ! (2 ∷ 0 ∷ []) $
+      fjoin ! $ frame ! $ done !
 
   -- the call of `next`, on the reader that lies in the local at l, lent for α ⊓ κ under the name δ
   abbrev κs : ℕ → Lfts 4
@@ -167,79 +177,132 @@ module _ {M : Type 1} (𝓤 : URA M) (H : Heap 𝓤) (A : Atoms 𝓤) (W : Given
   abbrev to-step : ℕ → ℕ → GName → StepC 𝓤 H A at-mem run .Ghost
   to-step l α δ = ((κs α, qs, (meet-⊑-right (α ∷ []) κ, tt), sent l δ, passed l α), tt)
 
-  goes-step : (l α : ℕ) (δ : GName) → ent 𝓤 (⋆ 𝓤 H A ((‵ (flft (α ∷ κ) (PosShare·left q)) ⊛ ‵ (flft κ (PosShare·right q)) ⊛ ‵ (flft κt qt) ⊛ ‵ (flft κp qp) ⊛ ‵ ftrue) ∷ ‵ (owns (MutRef (named 0) (α ∷ κ) R ∷ ShrSlice (named 2) κt u64 ∷ ShrSlice (named 3) κp u64 ∷ usize ∷ []) (sent l δ) (passed l α)) ∷ []))
+  goes-step : (l α : ℕ) (δ : GName) → ent 𝓤 (⋆ 𝓤 H A ((‵ (flft (α ∷ κ) (PosShare·left q)) ⊛ ‵ (flft κ (PosShare·right q)) ⊛ ‵ (flft κt qt) ⊛ ‵ (flft κp qp) ⊛
+      ‵ ftrue) ∷ ‵ (owns (MutRef (named 0) (α ∷ κ) R ∷ ShrSlice (named 2) κt u64 ∷ ShrSlice (named 3) κp u64 ∷ usize ∷ []) (sent l δ) (passed l α)) ∷ []))
       (StepC 𝓤 H A at-mem run .pre (to-step l α δ))
-  goes-step l α δ = qed W ((‵ (flft (α ∷ κ) (PosShare·left q)) ⊛ ‵ (flft κ (PosShare·right q)) ⊛ ‵ (flft κt qt) ⊛ ‵ (flft κp qp) ⊛ ‵ ftrue) ∷ ‵ (owns (MutRef (named 0) (α ∷ κ) R ∷ ShrSlice (named 2) κt u64 ∷ ShrSlice (named 3) κp u64 ∷ usize ∷ []) (sent l δ) (passed l α)) ∷ []) ∵ join ! $ frame ! $ done !
+  goes-step l α δ = qed W ((‵ (flft (α ∷ κ) (PosShare·left q)) ⊛ ‵ (flft κ (PosShare·right q)) ⊛ ‵ (flft κt qt) ⊛ ‵ (flft κp qp) ⊛ ‵ ftrue) ∷ ‵
+      (owns (MutRef (named 0) (α ∷ κ) R ∷ ShrSlice (named 2) κt u64 ∷ ShrSlice (named 3) κp u64 ∷ usize ∷ []) (sent l δ) (passed l α)) ∷ []) ∵ join ! $ frame
+      ! $ done !
 
   -- what `next` says: the answer n, and the reader z that is left
   abbrev Said : Next → Reader → Type 0
   Said n z = (n ≡ nextOf (now t) (now p) st (now s) a) × (z .row ≡ s) × (z .at ≡ afterOf a (nextOf (now t) (now p) st (now s) a))
 
-  exits : (n : Next) (u : Val) (b : ℕ) → Is N.the-row n (u ∷ []) → b < 2 ^ 64 → _≡_ {A = Stride} (record { answer = n; at = b }) (strideOf (now t) (now p) st (now s) a)
+  exits : (n : Next) (u : Val) (b : ℕ) → Is N.the-row n (u ∷ []) → b < 2 ^ 64 → _≡_ {A = Stride} (record { answer = n; at = b })
+      (strideOf (now t) (now p) st (now s) a)
       → ent 𝓤 (⋆ 𝓤 H A (‵ (flft κ q) ∷ ‵ (flft κp qp) ∷ ‵ (flft κt qt) ∷ ‵ All ∷ [])) (Post (vstruct (vcons u (vcons (vint w64 b) vnil))))
   exits n u b is fits e =
       qed W (‵ (flft κ q) ∷ ‵ (flft κp qp) ∷ ‵ (flft κt qt) ∷ ‵ All ∷ []) ∵
-      suffices ! _ (ends-at 𝓤 H A read.ended stayed (read.clauses 𝓤 H A at-mem run) W bound (vstruct (vcons u (vcons (vint w64 b) vnil))) (record { answer = n; at = b }) (tt, (tt, (tt, (tt, (tt, tt))))) (tt, (tt, (tt, (tt, (tt, tt)))))) $ says ! e $
+      suffices ! _ (ends-at 𝓤 H A read.ended stayed (read.clauses 𝓤 H A at-mem run) W bound (vstruct (vcons u (vcons (vint w64 b) vnil)))
+      (record { answer = n; at = b }) (tt, (tt, (tt, (tt, (tt, tt))))) (tt, (tt, (tt, (tt, (tt, tt)))))) $ says ! e $
       nothing ! $ move ! (1 ∷ 0 ∷ []) $ join ! $ move ! (1 ∷ 0 ∷ []) $ join ! $ move ! (1 ∷ 0 ∷ []) $ join ! $ frame ! $
-      owned ! S.the-row (Is S.the-row) (LL.makes S.the-type S′.the-plain 𝓤 H A) (record { answer = n; at = b }) _ ((u ∷ [], (vint w64 b ∷ [], tt)), (refl, (is, ((refl, fits), tt)))) $ move ! (1 ∷ 0 ∷ []) $ done !
+      owned ! S.the-row (Is S.the-row) (LL.makes S.the-type S′.the-plain 𝓤 H A) (record { answer = n; at = b }) _
+      ((u ∷ [], (vint w64 b ∷ [], tt)), (refl, (is, ((refl, fits), tt)))) $ move ! (1 ∷ 0 ∷ []) $ done !
 
   module _ (C : Calls 𝓤 H) (Λ : Loops 𝓤 H) (fm : FmC 𝓤 H (W .laws) C) (known : Triple 𝓤 (C #rows·step) (StepC 𝓤 H A at-mem run)) where
     walk : Is (ShrSlice (named 0) κt u64) t (tv ∷ []) → Is (ShrSlice (named 1) κp u64) p (pv ∷ []) → Is (ShrSlice (named 2) κ u64) s (sv ∷ [])
-        → ent 𝓤 (onEntry 𝓤 H A read.signature (κt, (κp, (κ, tt))) (qt, (qp, (q, tt))) x at) (WpFn 𝓤 H C Λ code.function (tv ∷ pv ∷ vint w64 st ∷ sv ∷ vint w64 a ∷ []) Post)
+        → ent 𝓤 (onEntry 𝓤 H A read.signature (κt, (κp, (κ, tt))) (qt, (qp, (q, tt))) x at) (WpFn 𝓤 H C Λ code.function
+        (tv ∷ pv ∷ vint w64 st ∷ sv ∷ vint w64 a ∷ []) Post)
     walk is-t is-p is-s =
-        qed W ((‵ (flft κt qt) ⊛ ‵ (flft κp qp) ⊛ ‵ (flft κ q) ⊛ ‵ ftrue) ∷ ‵ All ∷ []) ∵ enter ! C Λ code.function (tv ∷ pv ∷ vint w64 st ∷ sv ∷ vint w64 a ∷ []) _ $
-        alloc1 ! (λ l₀. alloc1 ! (λ l₁. alloc1 ! (λ l₂. alloc1 ! (λ l₃. alloc1 ! (λ l₄. alloc1 ! (λ l₅. alloc1 ! (λ l₆. alloc1 ! (λ l₇. alloc1 ! (λ l₈. alloc1 ! (λ l₉. alloc0 ! $ params1 ! $
-        pass1 ! (init ! 16 refl (shr-slice-lawful 𝓤 H A W (named 0) κt u64 .typed t (tv ∷ []) is-t .0)) $ pass1 ! (init ! 14 refl (shr-slice-lawful 𝓤 H A W (named 1) κp u64 .typed p (pv ∷ []) is-p .0)) $
-        pass1 ! (init ! 12 refl (tt, record { fits = st-fits })) $ pass1 ! (init ! 10 refl (shr-slice-lawful 𝓤 H A W (named 2) κ u64 .typed s (sv ∷ []) is-s .0)) $ pass1 ! (init ! 8 refl (tt, record { fits = a-fits })) $ pass0 ! $
+        qed W ((‵ (flft κt qt) ⊛ ‵ (flft κp qp) ⊛ ‵ (flft κ q) ⊛ ‵ ftrue) ∷ ‵ All ∷ []) ∵ enter ! C Λ code.function
+        (tv ∷ pv ∷ vint w64 st ∷ sv ∷ vint w64 a ∷ []) _ $
+        alloc1 ! (λ l₀. alloc1 ! (λ l₁. alloc1 ! (λ l₂. alloc1 ! (λ l₃. alloc1 ! (λ l₄. alloc1 ! (λ l₅. alloc1 !
+        (λ l₆. alloc1 ! (λ l₇. alloc1 ! (λ l₈. alloc1 ! (λ l₉. alloc0 ! $ params1 ! $
+        pass1 ! (init ! 16 refl (shr-slice-lawful 𝓤 H A W (named 0) κt u64 .typed t (tv ∷ []) is-t .0)) $ pass1 !
+        (init ! 14 refl (shr-slice-lawful 𝓤 H A W (named 1) κp u64 .typed p (pv ∷ []) is-p .0)) $
+        pass1 ! (init ! 12 refl (tt, record { fits = st-fits })) $ pass1 ! (init ! 10 refl (shr-slice-lawful 𝓤 H A W (named 2) κ u64 .typed s (sv ∷ [])
+        is-s .0)) $ pass1 ! (init ! 8 refl (tt, record { fits = a-fits })) $ pass0 ! $
         move ! (20 ∷ []) $ split ! $ move ! (1 ∷ []) $ split ! $ move ! (1 ∷ []) $ split ! $ move ! (1 ∷ []) $ drop ! $
         -- [row's token; pool's; table's; _9; …; _8; …; _7; …; _6; …; _5; …; _4; …; _3; …; _2; …; _1; …; _0; …; All]
-        assigns ! (agg ! (and-then ! (load ! (from ! (stop !)) (look ! 13 refl)) (and-then ! (load ! (from ! (stop !)) (look ! 11 refl)) (no-more !)))) (from ! (stop !)) (init ! 9 refl (tt, (shr-slice-lawful 𝓤 H A W (named 2) κ u64 .typed s (sv ∷ []) is-s .0 .1, (record { fits = a-fits }, tt)))) $
+        assigns ! (agg ! (and-then ! (load ! (from ! (stop !)) (look ! 13 refl)) (and-then ! (load ! (from ! (stop !)) (look ! 11 refl)) (no-more !))))
+        (from ! (stop !)) (init ! 9 refl (tt, (shr-slice-lawful 𝓤 H A W (named 2) κ u64 .typed s (sv ∷ []) is-s .0 .1, (record { fits = a-fits }, tt)))) $
         assigns ! (addr ! (from ! (stop !))) (from ! (stop !)) (init ! 5 refl (tt, tt)) $
         move ! (23 ∷ []) $ use1 W (‵ OwnR ⊛ ‵ All) for-made $ split ! $
         -- [what the reader owns; All; row's token; pool's; table's; _9; …]
-        move ! (11 ∷ []) $ use1 W (‵ (cellAt fullShare (R .mir) (T′.lowered made ∷ []) l₆ 0)) (W .laws .at-raw fullShare (T′.mir erased) l₆ 0 (T′.lowered made)) $ use2 W (‵ (mem R .lies made l₆ 0)) (lies-in 𝓤 H A W R made (T′.lowered made ∷ []) l₆ 0) $ move ! (0 ∷ 2 ∷ []) $
+        move ! (11 ∷ []) $ use1 W (‵ (cellAt fullShare (R .mir) (T′.lowered made ∷ []) l₆ 0)) (W .laws .at-raw fullShare (T′.mir erased) l₆ 0
+        (T′.lowered made)) $ use2 W (‵ (mem R .lies made l₆ 0)) (lies-in 𝓤 H A W R made (T′.lowered made ∷ []) l₆ 0) $ move ! (0 ∷ 2 ∷ []) $
         -- [the reader in its local; row's token; All; pool's token; table's; _9; …; _8; …; _7; …; that _6 dies; _5; …; _4; …; _3; …; _2; …; _1; …; _0; …]
         -- the reader is lent, `next` is called, and the reader comes back
-        use2 W (later (some (λ (α : ℕ). some (λ (δ : GName). ‵ (MutRef (named 0) (α ∷ κ) R .own (lent l₆ δ) (vptr l₆ 0 ∷ [])) ⊛ (‵ (flft (α ∷ κ) (PosShare·left q)) ⊛ (‵ (flft κ (PosShare·right q)) ⊛ ‵ (Back 𝓤 H A W R κ q l₆ 0 α δ))))))) (lends 𝓤 H A W R κ q l₆ 0 (named 0) made) $
+        use2 W (later (some (λ (α : ℕ). some (λ (δ : GName). ‵ (MutRef (named 0) (α ∷ κ) R .own (lent l₆ δ) (vptr l₆ 0 ∷ [])) ⊛
+        (‵ (flft (α ∷ κ) (PosShare·left q)) ⊛ (‵ (flft κ (PosShare·right q)) ⊛ ‵ (Back 𝓤 H A W R κ q l₆ 0 α δ)))))))
+        (lends 𝓤 H A W R κ q l₆ 0 (named 0) made) $
         await ! tt $ pick ! (λ α. pick ! (λ δ. split ! $ move ! (1 ∷ []) $ split ! $ move ! (1 ∷ []) $ split ! $
         -- [row's half; what comes back; the loan's token; what the `&mut` owns; All; pool's token; table's; _9; …]
         move ! (4 ∷ []) $ use1 W (‵ Rest ⊛ ‵ All) for-step $ split ! $ move ! (5 ∷ 0 ∷ []) $ fjoin ! $
         nothing ! $ move ! (6 ∷ 0 ∷ []) $ join ! $ move ! (6 ∷ 0 ∷ []) $ join ! $ move ! (3 ∷ 0 ∷ []) $ join ! $ move ! (4 ∷ 0 ∷ []) $ join ! $
         use2 W (raw (StepC 𝓤 H A at-mem run .pre (to-step l₆ α δ))) (goes-step l₆ α δ) $
         -- [what `next` asks; All; what comes back; _9; …; _8; …; _7; …; that _6 dies; _5; …; _4; …; _3; …; _2; …; _1; …; _0; …]
-        calls-at ! fm (StepC 𝓤 H A at-mem run) known (to-step l₆ α δ) (and-then ! (load ! (from ! (stop !)) (look ! 5 refl)) (and-then ! (load ! (from ! (stop !)) (look ! 18 refl)) (and-then ! (load ! (from ! (stop !)) (look ! 16 refl)) (and-then ! (load ! (from ! (stop !)) (look ! 14 refl)) (no-more !))))) (λ u.
-        use1 W (later (some (λ (n : Next). ((‵ (flft (α ∷ κ) (PosShare·left q)) ⊛ ‵ (flft κ (PosShare·right q)) ⊛ ‵ (flft κt qt) ⊛ ‵ (flft κp qp) ⊛ ‵ ftrue) ⊛ ‵ (N.the-row .own n (u ∷ [])))
-        ⊛ some (λ (z : Lasts step.ended (κs α) (sent l₆ δ)). ‵ (lasts step.ended (κs α) (sent l₆ δ) z) ⊛ raw (fact 𝓤 (Said n (z .0))))))) (id⊢ 𝓤 _) $ await ! tt $ pick ! (λ n.
-        split ! $ move ! (1 ∷ []) $ pick ! (λ z. split ! $ move ! (1 ∷ []) $ heard ! (Said n (z .0)) (λ e. fsplit ! $ move ! (1 ∷ []) $ drop ! $ move ! (1 ∷ []) $ split ! $ move ! (1 ∷ []) $
+        calls-at ! fm (StepC 𝓤 H A at-mem run) known (to-step l₆ α δ) (and-then ! (load ! (from ! (stop !)) (look ! 5 refl))
+        (and-then ! (load ! (from ! (stop !)) (look ! 18 refl)) (and-then ! (load ! (from ! (stop !)) (look ! 16 refl))
+        (and-then ! (load ! (from ! (stop !)) (look ! 14 refl)) (no-more !))))) (λ u.
+        use1 W (later (some (λ (n : Next). ((‵ (flft (α ∷ κ) (PosShare·left q)) ⊛ ‵ (flft κ (PosShare·right q)) ⊛ ‵ (flft κt qt) ⊛ ‵ (flft κp qp) ⊛ ‵ ftrue) ⊛
+        ‵ (N.the-row .own n (u ∷ [])))
+        ⊛ some (λ (z : Lasts step.ended (κs α) (sent l₆ δ)). ‵ (lasts step.ended (κs α) (sent l₆ δ) z) ⊛ raw (fact 𝓤 (Said n (z .0))))))) (id⊢ 𝓤 _) $ await !
+        tt $ pick ! (λ n.
+        split ! $ move ! (1 ∷ []) $ pick ! (λ z. split ! $ move ! (1 ∷ []) $ heard ! (Said n (z .0)) (λ e. fsplit ! $ move ! (1 ∷ []) $ drop ! $ move !
+        (1 ∷ []) $ split ! $ move ! (1 ∷ []) $
         -- [the answer; the tokens; the reader's last value; All; what comes back; _9; …]
-        peeks ! N.the-row (Is N.the-row) (shows 𝓤 H A N.the-row) n (u ∷ []) (λ is. land ! (from ! (stop !)) (init ! 9 refl (EL.lawful N.the-type N′.the-laws 𝓤 H A W tt .typed n _ is .0)) $ drop ! $
+        peeks ! N.the-row (Is N.the-row) (shows 𝓤 H A N.the-row) n (u ∷ []) (λ is. land ! (from ! (stop !))
+        (init ! 9 refl (EL.lawful N.the-type N′.the-laws 𝓤 H A W tt .typed n _ is .0)) $ drop ! $
         split ! $ move ! (1 ∷ []) $ split ! $ move ! (1 ∷ []) $ split ! $ move ! (1 ∷ []) $ split ! $ move ! (1 ∷ []) $ drop ! $
         -- [pool's token; table's; row's half; the loan's token; the last value; All; what comes back; _9; …]
         move ! (2 ∷ 4 ∷ []) $ join ! $ move ! (3 ∷ 0 ∷ []) $ join ! $ move ! (4 ∷ 0 ∷ []) $
         use2 W (later (‵ (mem R .lies (z .0) l₆ 0) ⊛ ‵ (flft κ q))) (back 𝓤 H A W R κ q l₆ 0 α δ (z .0)) $ await ! tt $ split ! $ move ! (0 ∷ 1 ∷ 4 ∷ []) $
-        use1 W (‵ (cellAt fullShare (R .mir) (T′.lowered (z .0) ∷ []) l₆ 0) ⊛ ‵ (R .own (z .0) (T′.lowered (z .0) ∷ []))) (lies-out 𝓤 H A W R (Is R) (shows 𝓤 H A R) (LL.vals (T.the-type α′) (T′.the-laws α′)) (LL.tells (T.the-type α′) (T′.the-laws α′)) (z .0) l₆ 0) $ split ! $
+        use1 W (‵ (cellAt fullShare (R .mir) (T′.lowered (z .0) ∷ []) l₆ 0) ⊛ ‵ (R .own (z .0) (T′.lowered (z .0) ∷ [])))
+        (lies-out 𝓤 H A W R (Is R) (shows 𝓤 H A R) (LL.vals (T.the-type α′) (T′.the-laws α′)) (LL.tells (T.the-type α′) (T′.the-laws α′)) (z .0) l₆ 0) $
+        split ! $
         use1 W (‵ (fat fullShare (T′.mir erased) l₆ 0 (T′.lowered (z .0)))) (W .laws .raw-at fullShare (T′.mir erased) l₆ 0 (T′.lowered (z .0))) $
         move ! (1 ∷ []) $ peeks ! R (Is R) (shows 𝓤 H A R) (z .0) (T′.lowered (z .0) ∷ []) (λ was. drop ! $
         -- [_6; row's token; All; pool's token; table's; _9; …; _8; …; _7; …; that _6 dies; _5; …; _4; …; _3; …; _2; …; _1; …; _0; …]
-        assigns ! (of-opd ! (load ! (from ! (fld ! refl (stop !))) (look-in ! 0 (sub ! 1 refl (whole !))))) (from ! (stop !)) (init ! 5 refl (tt, record { fits = was .1 .1 .1 .0 .1 })) $
-        assigns ! (agg ! (and-then ! (load ! (from ! (stop !)) (look ! 9 refl)) (and-then ! (load ! (from ! (stop !)) (look ! 5 refl)) (no-more !)))) (from ! (stop !))
-        (init ! 22 refl (LL.lawful S.the-type S′.the-laws 𝓤 H A W .typed (record { answer = n; at = z .0 .at }) _ ((u ∷ [], (vint w64 (z .0 .at) ∷ [], tt)), (refl, (is, ((refl, was .1 .1 .1 .0 .1), tt)))) .0)) $
-        returns ! (look ! 22 refl) $ forget ! 0 refl $ forget ! 5 refl $ forget ! 7 refl $ forget ! 9 refl $ forget ! 12 refl $ forget ! 14 refl $ forget ! 16 refl $ forget ! 18 refl $ forget ! 20 refl $ forget ! 22 refl $
-        move ! (22 ∷ 23 ∷ []) $ free1 ! $ move ! (20 ∷ 21 ∷ []) $ free1 ! $ move ! (18 ∷ 19 ∷ []) $ free1 ! $ move ! (16 ∷ 17 ∷ []) $ free1 ! $ move ! (14 ∷ 15 ∷ []) $ free1 ! $ move ! (12 ∷ 13 ∷ []) $ free1 ! $ move ! (0 ∷ 11 ∷ []) $ free1 ! $
+        assigns ! (of-opd ! (load ! (from ! (fld ! refl (stop !))) (look-in ! 0 (sub ! 1 refl (whole !))))) (from ! (stop !))
+        (init ! 5 refl (tt, record { fits = was .1 .1 .1 .0 .1 })) $
+        assigns ! (agg ! (and-then ! (load ! (from ! (stop !)) (look ! 9 refl)) (and-then ! (load ! (from ! (stop !)) (look ! 5 refl)) (no-more !))))
+        (from ! (stop !))
+        (init ! 22 refl (LL.lawful S.the-type S′.the-laws 𝓤 H A W .typed (record { answer = n; at = z .0 .at }) _
+        ((u ∷ [], (vint w64 (z .0 .at) ∷ [], tt)), (refl, (is, ((refl, was .1 .1 .1 .0 .1), tt)))) .0)) $
+        returns ! (look ! 22 refl) $ forget ! 0 refl $ forget ! 5 refl $ forget ! 7 refl $ forget ! 9 refl $ forget ! 12 refl $ forget ! 14 refl $ forget ! 16
+        refl $ forget ! 18 refl $ forget ! 20 refl $ forget ! 22 refl $
+        move ! (22 ∷ 23 ∷ []) $ free1 ! $ move ! (20 ∷ 21 ∷ []) $ free1 ! $ move ! (18 ∷ 19 ∷ []) $ free1 ! $ move ! (16 ∷ 17 ∷ []) $ free1 ! $ move !
+        (14 ∷ 15 ∷ []) $ free1 ! $ move ! (12 ∷ 13 ∷ []) $ free1 ! $ move ! (0 ∷ 11 ∷ []) $ free1 ! $
         move ! (8 ∷ 9 ∷ []) $ free1 ! $ move ! (6 ∷ 7 ∷ []) $ free1 ! $ move ! (4 ∷ 5 ∷ []) $ free1 ! $ free0 ! $ move ! (0 ∷ 2 ∷ 3 ∷ 1 ∷ []) $
         by ! (exits n u (z .0 .at) is (was .1 .1 .1 .0 .1) (stride-is n _ (z .0 .at) _ (e .0) (e .2)))))))))))))))))))))
 
 module _ {M : Type 1} (𝓤 : URA M) (H : Heap 𝓤) (A : Atoms 𝓤) (W : Given 𝓤 H A) (mem : Memory → SProp 𝓤) (run : Routine → Fun 𝓤) where
-  read-walks : (C : Calls 𝓤 H) (Λ : Loops 𝓤 H) → FmC 𝓤 H (W .laws) C → Triple 𝓤 (C #rows·step) (StepC 𝓤 H A mem run) → Walks 𝓤 H A read.ended stayed (WpFn 𝓤 H C Λ code.function) (read.clauses 𝓤 H A mem run)
-  read-walks C Λ fm known = walked 𝓤 H A read.ended stayed (read.clauses 𝓤 H A mem run) (WpFn 𝓤 H C Λ code.function) (λ κs. (slice-vals, (slice-vals, (uint-vals w64, (slice-vals, (uint-vals w64, tt))))))
-      (λ κs. (shr-slice-tells (named 0) (κs .0) u64, (shr-slice-tells (named 1) (κs .1 .0) u64, (uint-tells w64, (shr-slice-tells (named 2) (κs .1 .1 .0) u64, (uint-tells w64, tt))))))
-      (λ κs qs bounds a g are. via 𝓤 _ (fst∗ 𝓤 _ (emp 𝓤)) (walk 𝓤 H A W mem run (κs .0) (κs .1 .0) (κs .1 .1 .0) (qs .0) (qs .1 .0) (qs .1 .1 .0) (a .0) (a .1 .0) (a .1 .1 .0) (are .1 .1 .0 .1) (a .1 .1 .1 .0) (a .1 .1 .1 .1 .0) (are .1 .1 .1 .1 .0 .1) C Λ fm known (are .0) (are .1 .0) (are .1 .1 .1 .0)))
+  read-walks : (C : Calls 𝓤 H) (Λ : Loops 𝓤 H) → FmC 𝓤 H (W .laws) C → Triple 𝓤 (C #rows·step) (StepC 𝓤 H A mem run) → Walks 𝓤 H A read.ended stayed
+      (WpFn 𝓤 H C Λ code.function) (read.clauses 𝓤 H A mem run)
+  read-walks C Λ fm known = walked 𝓤 H A read.ended stayed (read.clauses 𝓤 H A mem run) (WpFn 𝓤 H C Λ code.function)
+      (λ κs. (slice-vals, (slice-vals, (uint-vals w64, (slice-vals, (uint-vals w64, tt))))))
+      (λ κs. (
+        shr-slice-tells (named 0) (κs .0) u64,
+        (
+          shr-slice-tells (named 1) (κs .1 .0) u64,
+          (
+            uint-tells w64,
+            (shr-slice-tells (named 2) (κs .1 .1 .0) u64, (uint-tells w64, tt)),
+          ),
+        ),
+      ))
+      (λ κs qs bounds a g are. via 𝓤 _ (fst∗ 𝓤 _ (emp 𝓤)) (walk 𝓤 H A W mem run (κs .0) (κs .1 .0) (κs .1 .1 .0) (qs .0) (qs .1 .0) (qs .1 .1 .0) (a .0)
+      (a .1 .0) (a .1 .1 .0) (are .1 .1 .0 .1) (a .1 .1 .1 .0) (a .1 .1 .1 .1 .0) (are .1 .1 .1 .1 .0 .1) C Λ fm known (are .0) (are .1 .0) (are .1 .1 .1 .0)))
 
-read-meets : {M : Type 1} (𝓤 : URA M) (H : Heap 𝓤) (A : Atoms 𝓤) (W : Given 𝓤 H A) (mem : Memory → SProp 𝓤) (run : Routine → Fun 𝓤) (𝓣 : Tables 𝓤 H) → Triple 𝓤 (𝓣 .C #rows·step) (StepC 𝓤 H A mem run)
+read-meets : {M : Type 1} (𝓤 : URA M) (H : Heap 𝓤) (A : Atoms 𝓤) (W : Given 𝓤 H A) (mem : Memory → SProp 𝓤) (run : Routine → Fun 𝓤) (𝓣 : Tables 𝓤 H) → Triple
+    𝓤 (𝓣 .C #rows·step) (StepC 𝓤 H A mem run)
     → Meets 𝓤 H A read.signature (WpFn 𝓤 H (𝓣 .C) (𝓣 .Λ) code.function) (read.spec 𝓤 H A mem run)
-read-meets 𝓤 H A W mem run 𝓣 known = walk-meets 𝓤 H A read.ended stayed W
-    (goes-none-slice 𝓤 H A W 3 (0 ∷ []) tt (plain (λ _. u64)) yes, (goes-none-slice 𝓤 H A W 3 (1 ∷ []) tt (plain (λ _. u64)) yes, (goes-none 𝓤 H A W 3 (λ _. usize) yes (λ κs x f. refl), (goes-none-slice 𝓤 H A W 3 (2 ∷ []) tt (plain (λ _. u64)) yes, (goes-none 𝓤 H A W 3 (λ _. usize) yes (λ κs x f. refl), tt)))))
-    (read.clauses 𝓤 H A mem run) (WpFn 𝓤 H (𝓣 .C) (𝓣 .Λ) code.function) (WpFn-mono 𝓤 H (W .laws) 𝓣 code.function) (read-walks 𝓤 H A W mem run (𝓣 .C) (𝓣 .Λ) (fmOf 𝓤 H (W .laws) 𝓣) known)
+read-meets 𝓤 H A W mem run 𝓣 known = walk-meets 𝓤 H A read.ended stayed W (
+  goes-none-slice 𝓤 H A W 3 (0 ∷ []) tt (plain (λ _. u64)) yes,
+  (
+    goes-none-slice 𝓤 H A W 3 (1 ∷ []) tt (plain (λ _. u64)) yes,
+    (
+      goes-none 𝓤 H A W 3 (λ _. usize) yes (λ κs x f. refl),
+      (
+        goes-none-slice 𝓤 H A W 3 (2 ∷ []) tt (plain (λ _. u64)) yes,
+        (goes-none 𝓤 H A W 3 (λ _. usize) yes (λ κs x f. refl), tt),
+      ),
+    ),
+  ),
+)
+    (read.clauses 𝓤 H A mem run) (WpFn 𝓤 H (𝓣 .C) (𝓣 .Λ) code.function) (WpFn-mono 𝓤 H (W .laws) 𝓣 code.function)
+    (read-walks 𝓤 H A W mem run (𝓣 .C) (𝓣 .Λ) (fmOf 𝓤 H (W .laws) 𝓣) known)
 
 pub read-at-spec : {M : Type 1} → stated.statement M
 unfolding code.routine tablesOf

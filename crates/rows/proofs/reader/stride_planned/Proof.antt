@@ -15,7 +15,13 @@ stride-planned-spec =
     (λ c. next-end (c .before .before .before .before .before .before .pre) _ _ _ (c .before .if1 .left) (c .if2 .taken))
     (λ c κs. (stands-at (c .before .before .before .before .before .before .pre) (c .before .if1 .left), omega (arith, c .if2 .left)))
     (λ c. search needs)
-    (λ c. next-forward (c .before .before .before .before .before .before .before .before .before .before .pre) _ _ _ (c .before .before .before .before .before .if1 .left) (c .before .before .before .before .if2 .left) (c .before .before .before .item-at .ensures) (c .before .n .given .1))
+    (λ c. next-forward (c .before .before .before .before .before .before .before .before .before .before .pre) _ _ _
+    (c .before .before .before .before .before .if1 .left) (c .before .before .before .before .if2 .left) (c .before .before .before .item-at .ensures)
+    (c .before .n .given .1))
     (λ c. search needs)
-    (λ c. next-item (c .before .before .before .before .before .before .before .before .before .before .pre) _ _ _ (c .before .before .before .before .before .if1 .left) (c .before .before .before .before .if2 .left) (c .before .before .before .item-at .ensures) (c .before .n .given .1))
-    (λ c. next-not (c .before .before .before .before .before .before .before .before .before .before .pre) _ _ _ (c .before .before .before .before .before .if1 .left) (c .before .before .before .before .if2 .left) (c .before .before .before .item-at .ensures) (c .before .r .given .1)))
+    (λ c. next-item (c .before .before .before .before .before .before .before .before .before .before .pre) _ _ _
+    (c .before .before .before .before .before .if1 .left) (c .before .before .before .before .if2 .left) (c .before .before .before .item-at .ensures)
+    (c .before .n .given .1))
+    (λ c. next-not (c .before .before .before .before .before .before .before .before .before .before .pre) _ _ _
+    (c .before .before .before .before .before .if1 .left) (c .before .before .before .before .if2 .left) (c .before .before .before .item-at .ensures)
+    (c .before .r .given .1)))

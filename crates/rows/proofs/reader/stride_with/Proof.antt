@@ -16,4 +16,5 @@ stride-with-spec =
     (λ c. search needs)
     (λ c. next-refused (c .before .before .before .before .before .prepare .ensures) _ _ _ (c .before .v .given .1))
     (λ c. search needs)
-    (λ c. next-planned (c .before .before .before .before .before .before .prepare .ensures) _ _ _ (c .before .before .enum-told .given .1) (c .stride-planned .ensures)))
+    (λ c. next-planned (c .before .before .before .before .before .before .prepare .ensures) _ _ _ (c .before .before .enum-told .given .1)
+    (c .stride-planned .ensures)))

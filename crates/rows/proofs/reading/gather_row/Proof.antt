@@ -25,13 +25,28 @@ gather-row-spec =
     (λ c κs. (c .before .before .before .before .before .before .pre, c .before .loop .inv .counts .within))
     (λ c. search needs)
     (λ c. same-length _ _ (c .before .before .before .before .before .before .loop .inv))
-    (λ c. storing-full _ _ (c .before .before .before .before .before .before .loop .inv) (c .before .before .before .before .before .loop-test .taken) (c .before .before .before .before .item-at .ensures) (c .before .before .n .given .1) (c .if1 .taken))
+    (λ c. storing-full _ _ (c .before .before .before .before .before .before .loop .inv) (c .before .before .before .before .before .loop-test .taken)
+    (c .before .before .before .before .item-at .ensures) (c .before .before .n .given .1) (c .if1 .taken))
     (λ c κs. search needs)
-    (λ c. omega (arith, c .before .before .before .before .if1 .left, c .before .before .before .before .before .before .before .before .before .before .before .before .before .before .before .fits .room))
-    (λ c. omega (arith, stood (c .before .before .before .before .before .before .before .before .item-at .ensures) (c .before .before .before .before .before .before .n .given .1) .1, stood (c .before .before .before .before .before .before .before .before .item-at .ensures) (c .before .before .before .before .before .before .n .given .1) .2))
-    (λ c. storing-more _ _ (c .before .before .before .before .before .before .before .before .before .before .loop .inv) (c .before .before .before .before .before .before .before .before .before .loop-test .taken) (c .before .before .before .before .before .before .before .before .item-at .ensures) (c .before .before .before .before .before .before .n .given .1) (c .before .before .before .before .if1 .left) (c .before .before .keep .ensures))
+    (λ c. omega (
+      arith,
+      c .before .before .before .before .if1 .left,
+      c .before .before .before .before .before .before .before .before .before .before .before .before .before .before .before .fits .room,
+    ))
+    (λ c. omega (
+      arith,
+      stood (c .before .before .before .before .before .before .before .before .item-at .ensures)
+          (c .before .before .before .before .before .before .n .given .1) .1,
+      stood
+          (c .before .before .before .before .before .before .before .before .item-at .ensures) (c .before .before .before .before .before .before .n .given .1) .2,
+    ))
+    (λ c. storing-more _ _ (c .before .before .before .before .before .before .before .before .before .before .loop .inv)
+    (c .before .before .before .before .before .before .before .before .before .loop-test .taken)
+    (c .before .before .before .before .before .before .before .before .item-at .ensures) (c .before .before .before .before .before .before .n .given .1)
+    (c .before .before .before .before .if1 .left) (c .before .before .keep .ensures))
     (λ c. search needs)
     (λ c. same-length _ _ (c .before .before .before .before .before .loop .inv))
-    (λ c. storing-stops _ _ (c .before .before .before .before .before .loop .inv) (c .before .before .before .before .loop-test .taken) (c .before .before .before .item-at .ensures) (c .before .r .given .1))
+    (λ c. storing-stops _ _ (c .before .before .before .before .before .loop .inv) (c .before .before .before .before .loop-test .taken)
+    (c .before .before .before .item-at .ensures) (c .before .r .given .1))
     (λ c. same-length _ _ (c .before .loop .inv))
     (λ c. storing-done _ _ (c .before .loop .inv) (c .loop-test .left)))

@@ -20,4 +20,6 @@ read-planned-spec =
     (λ c. over-long _ _ (c .before .before .settle-numbers .ensures))
     (λ c. got-numbers (c .before .before .before .before .before .before .before .before .before .before .before .before .before .before .before .before .before .before .before .pre) _ _ _ (c .before .before .before .before .before .before .before .before .before .before .before .before .if1 .left) (c .before .before .before .before .before .before .before .before .before .before .gather-row .ensures .is) (c .before .before .before .before .before .before .items .given .1) (c .before .before .settle-numbers .ensures))
     (λ c. c .before .before .before .before .before .gather-row .ensures .long)
-    (λ c. got-not (c .before .before .before .before .before .before .before .before .before .before .before .before .before .before .pre) _ _ _ (c .before .before .before .before .before .before .before .if1 .left) (c .before .before .before .before .before .gather-row .ensures .is) (c .before .r .given .1)))
+    (λ c. got-not (c .before .before .before .before .before .before .before .before .before .before .before .before .before .before .pre) _ _ _
+    (c .before .before .before .before .before .before .before .if1 .left) (c .before .before .before .before .before .gather-row .ensures .is)
+    (c .before .r .given .1)))

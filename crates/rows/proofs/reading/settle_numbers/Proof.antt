@@ -12,7 +12,9 @@ settle-numbers-spec =
     (tie.spec
     (λ c κs. (c .before .if1 .taken, c .before .before .before .before .before .before .before .pre .1 .1 .fits))
     (λ c. over-long _ _ (c .before .before .copy .ensures))
-    (λ c. kept-copied (c .before .before .before .before .before .before .before .before .before .before .pre .1 .1) (c .before .before .before .before .if1 .taken) _ (c .before .before .copy .ensures))
+    (λ c. kept-copied (c .before .before .before .before .before .before .before .before .before .before .pre .1 .1)
+    (c .before .before .before .before .if1 .taken) _ (c .before .before .copy .ensures))
     (λ c κs. c .before .before .before .before .before .before .before .pre .0)
     (λ c. c .before .before .gather-row .ensures .long)
-    (λ c. c .before .before .gather-row .ensures .holds _ _ (c .before .before .gather-row .ensures .is ∙ ap (answered _) (c .before .before .before .before .before .before .before .before .before .before .pre .1 .0 .is))))
+    (λ c. c .before .before .gather-row .ensures .holds _ _ (c .before .before .gather-row .ensures .is ∙ ap (answered _)
+    (c .before .before .before .before .before .before .before .before .before .before .pre .1 .0 .is))))

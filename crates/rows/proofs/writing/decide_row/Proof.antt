@@ -27,10 +27,18 @@ decide-row-spec =
     (λ c. c .before .before .loop .inv .fits)
     (λ c κs. c .before .before .before .before .before .before .pre)
     (λ c. search needs)
-    (λ c. omega (arith, tallying-fits _ _ (c .before .before .before .before .before .before .loop .inv) (c .before .before .before .before .before .loop-test .taken) (c .before .before .before .decided .ensures) (c .before .k .given .1), c .before .before .before .before .before .before .loop .inv .fits, c .before .before .before .before .before .before .before .before .before .before .fits .room))
+    (λ c. omega (
+      arith,
+      tallying-fits _ _ (c .before .before .before .before .before .before .loop .inv)
+          (c .before .before .before .before .before .loop-test .taken) (c .before .before .before .decided .ensures) (c .before .k .given .1),
+      c .before .before .before .before .before .before .loop .inv .fits,
+      c .before .before .before .before .before .before .before .before .before .before .fits .room,
+    ))
     (λ c. search needs)
     (λ c. omega arith)
-    (λ c. tallying-more _ _ (c .before .before .before .before .before .before .loop .inv) (c .before .before .before .before .before .loop-test .taken) (c .before .before .before .decided .ensures) (c .before .k .given .1))
+    (λ c. tallying-more _ _ (c .before .before .before .before .before .before .loop .inv) (c .before .before .before .before .before .loop-test .taken)
+    (c .before .before .before .decided .ensures) (c .before .k .given .1))
     (λ c. search needs)
-    (λ c. tallying-stops _ _ (c .before .before .before .before .before .before .loop .inv) (c .before .before .before .before .before .loop-test .taken) (c .before .before .before .decided .ensures) (c .before .r .given .1))
+    (λ c. tallying-stops _ _ (c .before .before .before .before .before .before .loop .inv) (c .before .before .before .before .before .loop-test .taken)
+    (c .before .before .before .decided .ensures) (c .before .r .given .1))
     (λ c. tallying-done _ _ (c .before .loop .inv) (c .loop-test .left)))

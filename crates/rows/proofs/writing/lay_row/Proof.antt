@@ -25,18 +25,36 @@ lay-row-spec =
     (λ c. laying-none _ _ _ _)
     (λ c. search needs)
     (λ c. search needs)
-    (λ c. omega (arith, laying-within _ _ (c .before .before .loop .inv), laying-long _ _ (c .before .before .loop .inv), c .before .before .before .before .before .before .before .good))
+    (λ c. omega (
+      arith,
+      laying-within _ _ (c .before .before .loop .inv),
+      laying-long _ _ (c .before .before .loop .inv),
+      c .before .before .before .before .before .before .before .good,
+    ))
     (λ c. laying-within _ _ (c .before .before .loop .inv))
     (λ c. laying-within _ _ (c .before .before .loop .inv))
     (λ c. omega (arith, laying-within _ _ (c .before .before .loop .inv)))
     (λ c κs. c .before .before .before .before .before .before .before .before .pre)
     (λ c. search needs)
-    (λ c. omega (arith, laying-fits _ _ (c .before .before .before .before .before .before .before .before .before .loop .inv) (c .before .before .before .before .before .before .before .before .loop-test .taken) refl (c .before .before .before .before .before .fits2 .ensures) (c .before .k .given .1), laying-long _ _ (c .before .before .before .before .before .before .before .before .before .loop .inv), c .before .before .before .before .before .before .before .before .before .before .before .before .before .before .good))
+    (λ c. omega (
+      arith,
+      laying-fits _ _ (c .before .before .before .before .before .before .before .before .before .loop .inv)
+          (c .before .before .before .before .before .before .before .before .loop-test .taken) refl (c .before .before .before .before .before .fits2 .ensures)
+          (c .before .k .given .1),
+      laying-long _ _ (c .before .before .before .before .before .before .before .before .before .loop .inv),
+      c .before .before .before .before .before .before .before .before .before .before .before .before .before .before .good,
+    ))
     (λ c. search needs)
     (λ c. omega arith)
-    (λ c. laying-more _ _ (c .before .before .before .before .before .before .before .before .before .loop .inv) (c .before .before .before .before .before .before .before .before .loop-test .taken) refl (c .before .before .before .before .before .fits2 .ensures) (c .before .k .given .1))
+    (λ c. laying-more _ _ (c .before .before .before .before .before .before .before .before .before .loop .inv)
+    (c .before .before .before .before .before .before .before .before .loop-test .taken) refl (c .before .before .before .before .before .fits2 .ensures)
+    (c .before .k .given .1))
     (λ c. search needs)
-    (λ c. laying-stops _ _ (c .before .before .before .before .before .before .before .before .before .loop .inv) (c .before .before .before .before .before .before .before .before .loop-test .taken) refl (c .before .before .before .before .before .fits2 .ensures) (c .before .r .given .1) .long)
-    (λ c. laying-stops _ _ (c .before .before .before .before .before .before .before .before .before .loop .inv) (c .before .before .before .before .before .before .before .before .loop-test .taken) refl (c .before .before .before .before .before .fits2 .ensures) (c .before .r .given .1))
+    (λ c. laying-stops _ _ (c .before .before .before .before .before .before .before .before .before .loop .inv)
+    (c .before .before .before .before .before .before .before .before .loop-test .taken) refl (c .before .before .before .before .before .fits2 .ensures)
+    (c .before .r .given .1) .long)
+    (λ c. laying-stops _ _ (c .before .before .before .before .before .before .before .before .before .loop .inv)
+    (c .before .before .before .before .before .before .before .before .loop-test .taken) refl (c .before .before .before .before .before .fits2 .ensures)
+    (c .before .r .given .1))
     (λ c. laying-long _ _ (c .before .loop .inv))
     (λ c. laying-done _ _ (c .before .loop .inv) (c .loop-test .left)))

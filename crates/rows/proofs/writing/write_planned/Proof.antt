@@ -16,5 +16,8 @@ write-planned-spec =
     (λ c κs. stands-at (c .before .before .before .before .before .before .before .before .before .before .pre) (c .before .before .before .before .if1 .left))
     (λ c. search needs)
     (λ c. c .before .before .lay-row .ensures .long)
-    (λ c. row-done (c .before .before .before .before .before .before .before .before .before .before .before .before .before .pre) _ _ _ (c .before .before .before .before .before .before .before .if1 .left) (c .before .before .before .before .before .before .decide-row .ensures) (c .before .before .before .before .enum-told .given .1) (c .before .before .lay-row .ensures))
-    (λ c. row-not (c .before .before .before .before .before .before .before .before .before .before .pre) _ _ _ (c .before .before .before .before .if1 .left) (c .before .before .before .decide-row .ensures) (c .before .r .given .1)))
+    (λ c. row-done (c .before .before .before .before .before .before .before .before .before .before .before .before .before .pre) _ _ _
+    (c .before .before .before .before .before .before .before .if1 .left) (c .before .before .before .before .before .before .decide-row .ensures)
+    (c .before .before .before .before .enum-told .given .1) (c .before .before .lay-row .ensures))
+    (λ c. row-not (c .before .before .before .before .before .before .before .before .before .before .pre) _ _ _
+    (c .before .before .before .before .if1 .left) (c .before .before .before .decide-row .ensures) (c .before .r .given .1)))

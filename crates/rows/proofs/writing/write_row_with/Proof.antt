@@ -17,4 +17,5 @@ write-row-with-spec =
     (λ c. row-refused (c .before .before .before .before .before .prepare .ensures) (c .before .v .given .1))
     (λ c. search needs)
     (λ c. search needs)
-    (λ c. row-planned (c .before .before .before .before .before .before .before .before .before .prepare .ensures) (c .before .before .before .before .before .enum-told .given .1) (c .before .before .write-planned .ensures)))
+    (λ c. row-planned (c .before .before .before .before .before .before .before .before .before .prepare .ensures)
+    (c .before .before .before .before .before .enum-told .given .1) (c .before .before .write-planned .ensures)))

@@ -125,39 +125,67 @@ pub +both+chosen+tagged+take+without-spec : {M : Type 1} → statement M
     (λ t. both-lts.spec (take-below t, take.Post, cons-join.Asked, cons-join.Learnt, word.Asked, word.Learnt) (both-at t) both.Post
     (λ c κs. part-first (c .before .pre .0) _ _ (c .before .pre .1 .1) (c .before .pre .1 .0 .0))
     (λ c. cons-stops _ _ _ _ _ _ (c .before .take .ensures) (c .if1 .taken))
-    (λ c κs. let at-take = c .before .before in let at-pre = at-take .before .before in part-next (at-pre .pre .0) (at-pre .pre .1 .1 .0) (at-take .take .ensures .inside (c .before .if1 .left)) (at-pre .pre .1 .1 .3) (at-pre .pre .1 .0 .1))
-    (λ c. let at-if1 = c .before .before .before in let at-take = at-if1 .before in let at-pre = at-take .before .before in cons-stays _ _ _ _ _ _ (at-take .take .ensures) (at-pre .pre .1 .0) (at-if1 .if1 .left) (c .before .take2 .ensures) (c .if2 .taken))
-    (λ c. let at-take2 = c .before .before in let at-if1 = at-take2 .before .before in let at-take = at-if1 .before in let at-pre = at-take .before .before in cons-big _ _ _ _ _ _ (at-take .take .ensures) (at-pre .pre .1 .0) (at-if1 .if1 .left) (at-take2 .take2 .ensures) (c .before .if2 .left) (c .if3 .taken))
-    (λ c κs. let at-pre = c .before .before .before .before .before .before .before .before in (reads-in (at-pre .pre .1 .0 .0), reads-in (at-pre .pre .1 .0 .1)))
+    (λ c κs. let at-take = c .before .before in let at-pre = at-take .before .before in part-next (at-pre .pre .0) (at-pre .pre .1 .1 .0)
+    (at-take .take .ensures .inside (c .before .if1 .left)) (at-pre .pre .1 .1 .3) (at-pre .pre .1 .0 .1))
+    (λ c. let at-if1 = c .before .before .before in let at-take = at-if1 .before in let at-pre = at-take .before .before in cons-stays _ _ _ _ _ _
+    (at-take .take .ensures) (at-pre .pre .1 .0) (at-if1 .if1 .left) (c .before .take2 .ensures) (c .if2 .taken))
+    (λ c. let at-take2 = c .before .before in let at-if1 = at-take2 .before .before in let at-take = at-if1 .before in let at-pre = at-take .before .before in
+    cons-big _ _ _ _ _ _ (at-take .take .ensures) (at-pre .pre .1 .0) (at-if1 .if1 .left) (at-take2 .take2 .ensures) (c .before .if2 .left) (c .if3 .taken))
+    (λ c κs. let at-pre = c .before .before .before .before .before .before .before .before in (
+      reads-in (at-pre .pre .1 .0 .0),
+      reads-in
+          (at-pre .pre .1 .0 .1),
+    ))
     (λ c κs. search needs)
-    (λ c. let at-if3 = c .before .before .before in let at-if2 = at-if3 .before in let at-take2 = at-if2 .before in let at-if1 = at-take2 .before .before in let at-take = at-if1 .before in let at-pre = at-take .before .before in cons-number _ _ _ _ _ _ (at-take .take .ensures) (at-pre .pre .1 .0) (at-if1 .if1 .left) (at-take2 .take2 .ensures) (at-if2 .if2 .left) (at-if3 .if3 .left)
+    (λ c. let at-if3 = c .before .before .before in let at-if2 = at-if3 .before in let at-take2 = at-if2 .before in let at-if1 = at-take2 .before .before in
+    let at-take = at-if1 .before in let at-pre = at-take .before .before in cons-number _ _ _ _ _ _ (at-take .take .ensures) (at-pre .pre .1 .0)
+    (at-if1 .if1 .left) (at-take2 .take2 .ensures) (at-if2 .if2 .left) (at-if3 .if3 .left)
     (c .word .ensures ∙ ap wordOf (c .before .join .ensures))))
     (λ t. chosen-lts.spec (take-below t, take.Post, dep-join.Asked, dep-join.Learnt, word.Asked, word.Learnt) (chosen-at t) chosen.Post
     (λ c κs. part-first (c .before .pre .0) _ _ (c .before .pre .1 .1) (c .before .pre .1 .0 .first))
     (λ c. let at-pre = c .before .before .before in dep-stops (at-pre .pre .1 .0) _ _ (c .before .take .ensures) (c .if1 .taken))
-    (λ c. let at-take = c .before .before in let at-pre = at-take .before .before in let q = second-place (at-pre .pre .1 .0) _ (dep-first (at-pre .pre .1 .0) _ _ (at-take .take .ensures) (omega (arith, c .before .if1 .left)) .1) in omega (arith, q .0, q .1))
-    (λ c. let at-take = c .before .before in let at-pre = at-take .before .before in let q = second-place (at-pre .pre .1 .0) _ (dep-first (at-pre .pre .1 .0) _ _ (at-take .take .ensures) (omega (arith, c .before .if1 .left)) .1) in omega (arith, q .0, q .1))
-    (λ c. let at-if1 = c .before .before in let at-take = at-if1 .before in let at-pre = at-take .before .before in let q = second-place (at-pre .pre .1 .0) _ (dep-first (at-pre .pre .1 .0) _ _ (at-take .take .ensures) (omega (arith, at-if1 .if1 .left)) .1) in omega (arith, q .0, q .1))
-    (λ c κs. let at-if1 = c .before .before .before in let at-take = at-if1 .before in let at-pre = at-take .before .before in part-next (at-pre .pre .0) (at-pre .pre .1 .1 .0) (at-take .take .ensures .inside (omega (arith, at-if1 .if1 .left))) (at-pre .pre .1 .1 .3)
+    (λ c. let at-take = c .before .before in let at-pre = at-take .before .before in let q = second-place (at-pre .pre .1 .0) _
+    (dep-first (at-pre .pre .1 .0) _ _ (at-take .take .ensures) (omega (arith, c .before .if1 .left)) .1) in omega (arith, q .0, q .1))
+    (λ c. let at-take = c .before .before in let at-pre = at-take .before .before in let q = second-place (at-pre .pre .1 .0) _
+    (dep-first (at-pre .pre .1 .0) _ _ (at-take .take .ensures) (omega (arith, c .before .if1 .left)) .1) in omega (arith, q .0, q .1))
+    (λ c. let at-if1 = c .before .before in let at-take = at-if1 .before in let at-pre = at-take .before .before in let q = second-place (at-pre .pre .1 .0) _
+    (dep-first (at-pre .pre .1 .0) _ _ (at-take .take .ensures) (omega (arith, at-if1 .if1 .left)) .1) in omega (arith, q .0, q .1))
+    (λ c κs. let at-if1 = c .before .before .before in let at-take = at-if1 .before in let at-pre = at-take .before .before in part-next (at-pre .pre .0)
+    (at-pre .pre .1 .1 .0) (at-take .take .ensures .inside (omega (arith, at-if1 .if1 .left))) (at-pre .pre .1 .1 .3)
     (at-pre .pre .1 .0 .seconds _ (dep-first (at-pre .pre .1 .0) _ _ (at-take .take .ensures) (omega (arith, at-if1 .if1 .left)) .1)))
-    (λ c. let at-if1 = c .before .before .before .before .before in let at-take = at-if1 .before in let at-pre = at-take .before .before in dep-stays (at-pre .pre .1 .0) _ _ (at-take .take .ensures) (dep-first (at-pre .pre .1 .0) _ _ (at-take .take .ensures) (omega (arith, at-if1 .if1 .left))) (c .before .take2 .ensures) (c .if2 .taken))
-    (λ c κs. let at-if1 = c .before .before .before .before .before .before in let at-take = at-if1 .before in let at-pre = at-take .before .before in (at-pre .pre .1 .0 .words, dep-first (at-pre .pre .1 .0) _ _ (at-take .take .ensures) (omega (arith, at-if1 .if1 .left)) .1))
+    (λ c. let at-if1 = c .before .before .before .before .before in let at-take = at-if1 .before in let at-pre = at-take .before .before in dep-stays
+    (at-pre .pre .1 .0) _ _ (at-take .take .ensures) (dep-first (at-pre .pre .1 .0) _ _ (at-take .take .ensures) (omega (arith, at-if1 .if1 .left)))
+    (c .before .take2 .ensures) (c .if2 .taken))
+    (λ c κs. let at-if1 = c .before .before .before .before .before .before in let at-take = at-if1 .before in let at-pre = at-take .before .before in
+    (at-pre .pre .1 .0 .words, dep-first (at-pre .pre .1 .0) _ _ (at-take .take .ensures) (omega (arith, at-if1 .if1 .left)) .1))
     (λ c κs. search needs)
-    (λ c. let at-if2 = c .before .before .before in let at-take2 = at-if2 .before in let at-if1 = at-take2 .before .before .before .before in let at-take = at-if1 .before in let at-pre = at-take .before .before in dep-number (at-pre .pre .1 .0) _ _ (at-take .take .ensures) (dep-first (at-pre .pre .1 .0) _ _ (at-take .take .ensures) (omega (arith, at-if1 .if1 .left))) (at-take2 .take2 .ensures) (at-if2 .if2 .left)
+    (λ c. let at-if2 = c .before .before .before in let at-take2 = at-if2 .before in let at-if1 = at-take2 .before .before .before .before in let at-take =
+    at-if1 .before in let at-pre = at-take .before .before in dep-number (at-pre .pre .1 .0) _ _ (at-take .take .ensures)
+    (dep-first (at-pre .pre .1 .0) _ _ (at-take .take .ensures) (omega (arith, at-if1 .if1 .left))) (at-take2 .take2 .ensures) (at-if2 .if2 .left)
     (c .word .ensures ∙ ap wordOf (c .before .join .ensures))))
-    (λ t. tagged-lts.spec (counted.Asked, counted.Learnt, take-below t, take.Post, or-join.Asked, or-join.Learnt, word.Asked, word.Learnt) (tagged-at t) tagged.Post
+    (λ t. tagged-lts.spec (counted.Asked, counted.Learnt, take-below t, take.Post, or-join.Asked, or-join.Learnt, word.Asked, word.Learnt) (tagged-at t)
+    tagged.Post
     (λ c κs. (omega arith, c .before .pre .1 .1 .1, c .before .pre .1 .1 .2))
-    (λ c κs. let at-counted = c .before .before in let at-pre = at-counted .before .before in part-next (at-pre .pre .0) (at-pre .pre .1 .1 .0) (tag-inside _ (at-counted .counted .ensures .1) (omega (arith, c .before .if1 .taken))) (at-pre .pre .1 .1 .2) (at-pre .pre .1 .0 .0))
-    (λ c. let at-if1 = c .before .before .before in let at-counted = at-if1 .before in first-stays _ _ _ _ _ _ (at-counted .counted .ensures .1) (at-if1 .if1 .taken) (c .before .take .ensures) (c .if2 .taken))
+    (λ c κs. let at-counted = c .before .before in let at-pre = at-counted .before .before in part-next (at-pre .pre .0) (at-pre .pre .1 .1 .0)
+    (tag-inside _ (at-counted .counted .ensures .1) (omega (arith, c .before .if1 .taken))) (at-pre .pre .1 .1 .2) (at-pre .pre .1 .0 .0))
+    (λ c. let at-if1 = c .before .before .before in let at-counted = at-if1 .before in first-stays _ _ _ _ _ _ (at-counted .counted .ensures .1)
+    (at-if1 .if1 .taken) (c .before .take .ensures) (c .if2 .taken))
     (λ c κs. let at-pre = c .before .before .before .before .before .before .before in (omega arith, reads-in (at-pre .pre .1 .0 .1)))
     (λ c κs. search needs)
-    (λ c. let at-if2 = c .before .before .before in let at-take = at-if2 .before in let at-if1 = at-take .before .before in let at-counted = at-if1 .before in first-number _ _ _ _ _ _ (at-counted .counted .ensures .1) (at-if1 .if1 .taken) (at-take .take .ensures) (at-if2 .if2 .left) (c .word .ensures ∙ ap wordOf (c .before .join .ensures)))
-    (λ c κs. let at-counted = c .before .before .before in let at-pre = at-counted .before .before in part-next (at-pre .pre .0) (at-pre .pre .1 .1 .0) (tag-inside _ (at-counted .counted .ensures .1) (omega (arith, c .before .if3 .taken))) (at-pre .pre .1 .1 .2) (at-pre .pre .1 .0 .1))
-    (λ c. let at-if3 = c .before .before .before in let at-counted = at-if3 .before .before in second-stays _ _ _ _ _ _ (at-counted .counted .ensures .1) (at-if3 .if3 .taken) (c .before .take2 .ensures) (c .if4 .taken))
+    (λ c. let at-if2 = c .before .before .before in let at-take = at-if2 .before in let at-if1 = at-take .before .before in let at-counted = at-if1 .before in
+    first-number _ _ _ _ _ _ (at-counted .counted .ensures .1) (at-if1 .if1 .taken) (at-take .take .ensures) (at-if2 .if2 .left)
+    (c .word .ensures ∙ ap wordOf (c .before .join .ensures)))
+    (λ c κs. let at-counted = c .before .before .before in let at-pre = at-counted .before .before in part-next (at-pre .pre .0) (at-pre .pre .1 .1 .0)
+    (tag-inside _ (at-counted .counted .ensures .1) (omega (arith, c .before .if3 .taken))) (at-pre .pre .1 .1 .2) (at-pre .pre .1 .0 .1))
+    (λ c. let at-if3 = c .before .before .before in let at-counted = at-if3 .before .before in second-stays _ _ _ _ _ _ (at-counted .counted .ensures .1)
+    (at-if3 .if3 .taken) (c .before .take2 .ensures) (c .if4 .taken))
     (λ c κs. let at-pre = c .before .before .before .before .before .before .before .before in (omega arith, reads-in (at-pre .pre .1 .0 .0)))
     (λ c κs. search needs)
-    (λ c. let at-if4 = c .before .before .before in let at-take2 = at-if4 .before in let at-if3 = at-take2 .before .before in let at-counted = at-if3 .before .before in second-number _ _ _ _ _ _ (at-counted .counted .ensures .1) (at-if3 .if3 .taken) (at-take2 .take2 .ensures) (at-if4 .if4 .left) (c .word2 .ensures ∙ ap wordOf (c .before .join2 .ensures)))
-    (λ c. let at-counted = c .before .before in or-stops _ _ _ _ _ _ (at-counted .counted .ensures .1) (⊎-elim (λ l. absurd (omega (arith, at-counted .counted .ensures .0 l, c .before .if1 .left, c .if3 .left))) (λ l. l) (le-or-lt _ (2 ^ 63)))))
+    (λ c. let at-if4 = c .before .before .before in let at-take2 = at-if4 .before in let at-if3 = at-take2 .before .before in let at-counted =
+    at-if3 .before .before in second-number _ _ _ _ _ _ (at-counted .counted .ensures .1) (at-if3 .if3 .taken) (at-take2 .take2 .ensures) (at-if4 .if4 .left)
+    (c .word2 .ensures ∙ ap wordOf (c .before .join2 .ensures)))
+    (λ c. let at-counted = c .before .before in or-stops _ _ _ _ _ _ (at-counted .counted .ensures .1)
+    (⊎-elim (λ l. absurd (omega (arith, at-counted .counted .ensures .0 l, c .before .if1 .left, c .if3 .left))) (λ l. l) (le-or-lt _ (2 ^ 63)))))
     (λ t. take-lts.spec (calls t) (take-at t) take.Post
     (λ c. deep-taken _ _ _ (c .if1 .taken))
     (λ c. let at-pre = c .before .before in let q = in-plan (at-pre .pre .1 .0) in omega (arith, q .0, q .1))
@@ -171,41 +199,75 @@ pub +both+chosen+tagged+take+without-spec : {M : Type 1} → statement M
     (λ c. let at-pre = c .before .before .before .before in let q = in-plan (at-pre .pre .1 .0) in omega (arith, q .0, q .1))
     (λ c. let at-pre = c .before .before .before .before in let q = in-plan (at-pre .pre .1 .0) in omega (arith, q .0, q .1))
     (λ c. let at-pre = c .before .before .before .before .before in let q = in-plan (at-pre .pre .1 .0) in omega (arith, q .0, q .1))
-    (λ c κs. let at-pre = c .before .before .before .before .before .before .before in (below-most (at-pre .pre .1 .0) (c .before .match .keys1), at-pre .pre .1 .1 .2, at-pre .pre .1 .1 .3))
+    (λ c κs. let at-pre = c .before .before .before .before .before .before .before in (
+      below-most (at-pre .pre .1 .0) (c .before .match .keys1),
+      at-pre .pre .1 .1 .2,
+      at-pre .pre .1 .1 .3,
+    ))
     (λ c κs. let at-pre = c .before .before .before .before .before .before .before in (at-pre .pre .1 .1 .2, at-pre .pre .1 .1 .3))
-    (λ c κs. let at-pre = c .before .before .before .before .before .before .before in (pool-in (at-pre .pre .1 .0) (c .before .match .keys3), (at-pre .pre .1 .1 .2, at-pre .pre .1 .1 .3)))
+    (λ c κs. let at-pre = c .before .before .before .before .before .before .before in (
+      pool-in (at-pre .pre .1 .0) (c .before .match .keys3),
+      (at-pre .pre .1 .1 .2, at-pre .pre .1 .1 .3),
+    ))
     (λ c. let at-if1 = c .before .before .before .before .before in omega (arith, at-if1 .if1 .left))
-    (λ c. let at-pre = c .before .before .before .before .before .before in omega (arith, at-pre .pre .1 .1 .1, shift-small (at-pre .pre .1 .0) (c .match .keys4)))
-    (λ c κs. let at-if1 = c .before .before .before .before .before .before in let at-pre = at-if1 .before in visit-shift (at-pre .pre .0) (at-if1 .if1 .left) _ _ (at-pre .pre .1 .1) (shift-small (at-pre .pre .1 .0) (c .before .match .keys4))
+    (λ c. let at-pre = c .before .before .before .before .before .before in omega (
+      arith,
+      at-pre .pre .1 .1 .1,
+      shift-small (at-pre .pre .1 .0)
+          (c .match .keys4),
+    ))
+    (λ c κs. let at-if1 = c .before .before .before .before .before .before in let at-pre = at-if1 .before in visit-shift (at-pre .pre .0) (at-if1 .if1 .left)
+    _ _ (at-pre .pre .1 .1) (shift-small (at-pre .pre .1 .0) (c .before .match .keys4))
     (reads-lower (at-pre .pre .1 .0) _ (shift-lower (at-pre .pre .1 .0) (c .before .match .keys4))))
     (λ c. let at-if1 = c .before .before .before .before .before in omega (arith, at-if1 .if1 .left))
-    (λ c κs. let at-if1 = c .before .before .before .before .before .before in let at-pre = at-if1 .before in visit-tagged (at-pre .pre .0) (at-if1 .if1 .left) _ _ (at-pre .pre .1 .1) (both-reads (at-pre .pre .1 .0) (or-lower (at-pre .pre .1 .0) (c .before .match .keys5))))
+    (λ c κs. let at-if1 = c .before .before .before .before .before .before in let at-pre = at-if1 .before in visit-tagged (at-pre .pre .0)
+    (at-if1 .if1 .left) _ _ (at-pre .pre .1 .1) (both-reads (at-pre .pre .1 .0) (or-lower (at-pre .pre .1 .0) (c .before .match .keys5))))
     (λ c. let at-if1 = c .before .before .before .before .before in omega (arith, at-if1 .if1 .left))
-    (λ c κs. let at-if1 = c .before .before .before .before .before .before in let at-pre = at-if1 .before in visit-shape (at-pre .pre .0) (at-if1 .if1 .left) _ _ (at-pre .pre .1 .1) (both-reads (at-pre .pre .1 .0) (cons-lower (at-pre .pre .1 .0) (c .before .match .keys6))))
+    (λ c κs. let at-if1 = c .before .before .before .before .before .before in let at-pre = at-if1 .before in visit-shape (at-pre .pre .0) (at-if1 .if1 .left)
+    _ _ (at-pre .pre .1 .1) (both-reads (at-pre .pre .1 .0) (cons-lower (at-pre .pre .1 .0) (c .before .match .keys6))))
     (λ c. let at-if1 = c .before .before .before .before .before in omega (arith, at-if1 .if1 .left))
-    (λ c κs. let at-if1 = c .before .before .before .before .before .before in let at-pre = at-if1 .before in visit-shape (at-pre .pre .0) (at-if1 .if1 .left) _ _ (at-pre .pre .1 .1) (choosing (at-pre .pre .1 .0) (c .before .match .keys7)))
+    (λ c κs. let at-if1 = c .before .before .before .before .before .before in let at-pre = at-if1 .before in visit-shape (at-pre .pre .0) (at-if1 .if1 .left)
+    _ _ (at-pre .pre .1 .1) (choosing (at-pre .pre .1 .0) (c .before .match .keys7)))
     (λ c. let at-if1 = c .before .before .before .before .before in omega (arith, at-if1 .if1 .left))
-    (λ c κs. let at-if1 = c .before .before .before .before .before .before in let at-pre = at-if1 .before in visit-shape (at-pre .pre .0) (at-if1 .if1 .left) _ _ (at-pre .pre .1 .1)
-    (reads-lower (at-pre .pre .1 .0) _ (except-lower (at-pre .pre .1 .0) (c .before .match .keys8)), except-small (at-pre .pre .1 .0) (c .before .match .keys8)))
+    (λ c κs. let at-if1 = c .before .before .before .before .before .before in let at-pre = at-if1 .before in visit-shape (at-pre .pre .0) (at-if1 .if1 .left)
+    _ _ (at-pre .pre .1 .1) (
+      reads-lower (at-pre .pre .1 .0) _ (except-lower (at-pre .pre .1 .0) (c .before .match .keys8)),
+      except-small (at-pre .pre .1 .0)
+          (c .before .match .keys8),
+    ))
     (λ c. let at-if1 = c .before .before .before .before .before in omega (arith, at-if1 .if1 .left))
-    (λ c κs. let at-if1 = c .before .before .before .before .before .before in let at-pre = at-if1 .before in visit-part (at-pre .pre .0) (at-if1 .if1 .left) _ _ (at-pre .pre .1 .1) (fix-reads (at-pre .pre .1 .0) (c .before .match .keys9)))
+    (λ c κs. let at-if1 = c .before .before .before .before .before .before in let at-pre = at-if1 .before in visit-part (at-pre .pre .0) (at-if1 .if1 .left)
+    _ _ (at-pre .pre .1 .1) (fix-reads (at-pre .pre .1 .0) (c .before .match .keys9)))
     (λ c. let at-if1 = c .before .before .before .before .before in omega (arith, at-if1 .if1 .left))
-    (λ c κs. let at-if1 = c .before .before .before .before .before .before in let at-pre = at-if1 .before in visit-part (at-pre .pre .0) (at-if1 .if1 .left) _ _ (at-pre .pre .1 .1) (again-reads (at-pre .pre .1 .0) (c .before .match .keys10)))
-    (λ c. let at-match = c .before .before in let at-if1 = at-match .before .before .before .before .before in tree-taken _ _ _ (at-if1 .if1 .left) (tree-of (below-rule _ _ _ (at-match .match .keys1))) (omega arith) (c .counted .ensures .1 _))
-    (λ c. let at-match = c .before .before in let at-if1 = at-match .before .before .before .before .before in tree-taken _ _ _ (at-if1 .if1 .left) (tree-of (nats-rule _ _ _ (at-match .match .keys2))) (omega arith) (c .any .ensures _))
-    (λ c. let at-match = c .before .before in let at-if1 = at-match .before .before .before .before .before in tree-taken _ _ _ (at-if1 .if1 .left) (tree-of (pool-rule _ _ _ (at-match .match .keys3))) (omega arith) (c .listed .ensures _))
-    (λ c. let at-match = c .before .before in let at-if1 = at-match .before .before .before .before .before in let at-pre = at-if1 .before in pass-taken _ _ _ (at-if1 .if1 .left) (shift-tree (at-pre .pre .1 .0) (at-match .match .keys4)) refl (omega arith) (c .take .ensures))
-    (λ c. let at-match = c .before .before in let at-if1 = at-match .before .before .before .before .before in let at-pre = at-if1 .before in tree-taken _ _ _ (at-if1 .if1 .left) (tree-of (or-rule (at-pre .pre .1 .0) (at-match .match .keys5))) (omega arith) (c .tagged .ensures))
-    (λ c. let at-match = c .before .before in let at-if1 = at-match .before .before .before .before .before in let at-pre = at-if1 .before in tree-taken _ _ _ (at-if1 .if1 .left) (tree-of (cons-rule (at-pre .pre .1 .0) (at-match .match .keys6))) (omega arith) (c .both .ensures))
-    (λ c. let at-match = c .before .before in let at-if1 = at-match .before .before .before .before .before in let at-pre = at-if1 .before in tree-taken _ _ _ (at-if1 .if1 .left) (tree-of (dep-rule (at-pre .pre .1 .0) (at-match .match .keys7))) (omega arith) (c .chosen .ensures))
-    (λ c. let at-match = c .before .before in let at-if1 = at-match .before .before .before .before .before in let at-pre = at-if1 .before in tree-taken _ _ _ (at-if1 .if1 .left) (tree-of (except-rule (at-pre .pre .1 .0) (at-match .match .keys8))) (omega arith) (c .without .ensures))
-    (λ c. let at-match = c .before .before in let at-if1 = at-match .before .before .before .before .before in pass-taken _ _ _ (at-if1 .if1 .left) (fix-tree _ _ _ (at-match .match .keys9)) (sym (add-zero _)) (omega arith) (c .take2 .ensures))
-    (λ c. let at-match = c .before .before in let at-if1 = at-match .before .before .before .before .before in pass-taken _ _ _ (at-if1 .if1 .left) (again-tree _ _ _ (at-match .match .keys10)) (sym (add-zero _)) (omega arith) (c .take3 .ensures))
+    (λ c κs. let at-if1 = c .before .before .before .before .before .before in let at-pre = at-if1 .before in visit-part (at-pre .pre .0) (at-if1 .if1 .left)
+    _ _ (at-pre .pre .1 .1) (again-reads (at-pre .pre .1 .0) (c .before .match .keys10)))
+    (λ c. let at-match = c .before .before in let at-if1 = at-match .before .before .before .before .before in tree-taken _ _ _ (at-if1 .if1 .left)
+    (tree-of (below-rule _ _ _ (at-match .match .keys1))) (omega arith) (c .counted .ensures .1 _))
+    (λ c. let at-match = c .before .before in let at-if1 = at-match .before .before .before .before .before in tree-taken _ _ _ (at-if1 .if1 .left)
+    (tree-of (nats-rule _ _ _ (at-match .match .keys2))) (omega arith) (c .any .ensures _))
+    (λ c. let at-match = c .before .before in let at-if1 = at-match .before .before .before .before .before in tree-taken _ _ _ (at-if1 .if1 .left)
+    (tree-of (pool-rule _ _ _ (at-match .match .keys3))) (omega arith) (c .listed .ensures _))
+    (λ c. let at-match = c .before .before in let at-if1 = at-match .before .before .before .before .before in let at-pre = at-if1 .before in pass-taken _ _ _
+    (at-if1 .if1 .left) (shift-tree (at-pre .pre .1 .0) (at-match .match .keys4)) refl (omega arith) (c .take .ensures))
+    (λ c. let at-match = c .before .before in let at-if1 = at-match .before .before .before .before .before in let at-pre = at-if1 .before in tree-taken _ _ _
+    (at-if1 .if1 .left) (tree-of (or-rule (at-pre .pre .1 .0) (at-match .match .keys5))) (omega arith) (c .tagged .ensures))
+    (λ c. let at-match = c .before .before in let at-if1 = at-match .before .before .before .before .before in let at-pre = at-if1 .before in tree-taken _ _ _
+    (at-if1 .if1 .left) (tree-of (cons-rule (at-pre .pre .1 .0) (at-match .match .keys6))) (omega arith) (c .both .ensures))
+    (λ c. let at-match = c .before .before in let at-if1 = at-match .before .before .before .before .before in let at-pre = at-if1 .before in tree-taken _ _ _
+    (at-if1 .if1 .left) (tree-of (dep-rule (at-pre .pre .1 .0) (at-match .match .keys7))) (omega arith) (c .chosen .ensures))
+    (λ c. let at-match = c .before .before in let at-if1 = at-match .before .before .before .before .before in let at-pre = at-if1 .before in tree-taken _ _ _
+    (at-if1 .if1 .left) (tree-of (except-rule (at-pre .pre .1 .0) (at-match .match .keys8))) (omega arith) (c .without .ensures))
+    (λ c. let at-match = c .before .before in let at-if1 = at-match .before .before .before .before .before in pass-taken _ _ _ (at-if1 .if1 .left)
+    (fix-tree _ _ _ (at-match .match .keys9)) (sym (add-zero _)) (omega arith) (c .take2 .ensures))
+    (λ c. let at-match = c .before .before in let at-if1 = at-match .before .before .before .before .before in pass-taken _ _ _ (at-if1 .if1 .left)
+    (again-tree _ _ _ (at-match .match .keys10)) (sym (add-zero _)) (omega arith) (c .take3 .ensures))
     (λ c. let at-pre = c .before .before .before .before .before .before in absurd (known (at-pre .pre .1 .0) (c .match .rest))))
     (λ t. without-lts.spec (take-below t, take.Post, except-join.Asked, except-join.Learnt, word.Asked, word.Learnt) (without-at t) without.Post
     (λ c κs. part-first (c .before .pre .0) _ _ (c .before .pre .1 .1) (c .before .pre .1 .0 .0))
-    (λ c. let at-pre = c .before .before .before in except-stays _ _ _ _ _ _ (c .before .take .ensures) (at-pre .pre .1 .1 .0) (at-pre .pre .1 .0 .1) (c .if1 .taken))
+    (λ c. let at-pre = c .before .before .before in except-stays _ _ _ _ _ _ (c .before .take .ensures) (at-pre .pre .1 .1 .0) (at-pre .pre .1 .0 .1)
+    (c .if1 .taken))
     (λ c. let at-take = c .before .before in except-unfit _ _ _ _ _ _ (at-take .take .ensures) (c .before .if1 .left) (c .if2 .taken))
     (λ c κs. c .if2 .left)
     (λ c κs. search needs)
-    (λ c. let at-if2 = c .before .before in let at-if1 = at-if2 .before in let at-take = at-if1 .before in except-number _ _ _ _ _ _ (at-take .take .ensures) (at-if1 .if1 .left) (at-if2 .if2 .left) (c .word .ensures ∙ ap wordOf (c .before .join .ensures))))
+    (λ c. let at-if2 = c .before .before in let at-if1 = at-if2 .before in let at-take = at-if1 .before in except-number _ _ _ _ _ _ (at-take .take .ensures)
+    (at-if1 .if1 .left) (at-if2 .if2 .left) (c .word .ensures ∙ ap wordOf (c .before .join .ensures))))

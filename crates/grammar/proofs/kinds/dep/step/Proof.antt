@@ -14,7 +14,10 @@ step-spec =
     tie.close
     (tie.spec
     (λ c κs. let at-pre = c .before .before in at-pre .pre .0 .0)
-    (λ c. let at-pre = c .before .before .before in let q = second-in (at-pre .pre .0 .0) _ (c .parts .ensures) (at-pre .pre .1) in omega (arith, q, at-pre .pre .0 .1))
-    (λ c. let at-pre = c .before .before .before in let q = second-in (at-pre .pre .0 .0) _ (c .parts .ensures) (at-pre .pre .1) in omega (arith, q, at-pre .pre .0 .1))
-    (λ c. let at-pre = c .before .before .before .before in let q = second-in (at-pre .pre .0 .0) _ (c .before .parts .ensures) (at-pre .pre .1) in omega (arith, q, at-pre .pre .0 .1))
+    (λ c. let at-pre = c .before .before .before in let q = second-in (at-pre .pre .0 .0) _ (c .parts .ensures) (at-pre .pre .1) in omega
+    (arith, q, at-pre .pre .0 .1))
+    (λ c. let at-pre = c .before .before .before in let q = second-in (at-pre .pre .0 .0) _ (c .parts .ensures) (at-pre .pre .1) in omega
+    (arith, q, at-pre .pre .0 .1))
+    (λ c. let at-pre = c .before .before .before .before in let q = second-in (at-pre .pre .0 .0) _ (c .before .parts .ensures) (at-pre .pre .1) in omega
+    (arith, q, at-pre .pre .0 .1))
     (λ c. let at-pre = c .before .before .before .before in λ s. second-is (at-pre .pre .0 .0) _ (c .before .parts .ensures) (at-pre .pre .1)))
