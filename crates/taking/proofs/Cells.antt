@@ -17,11 +17,11 @@ use lib.ListN.{length, getD, take, drop, drop-of-length-le, length-take}
 use lib.Seq.{drop-cons, getD-take, take-all}
 use borrow.Author.Tests.{ltb-true, ltb-false, leb-true, leb-false, le-leb, lt-leb}
 use Rattle.numbers.specs.Pick.{pick}
-use Rattle.numbers.specs.Joined.{limit, capped}
+use Rattle.numbers.specs.Joined.{limit, capped, wordOf}
 use Rattle.numbers.proofs.Tests.{pick-by}
 use Rattle.grammar.specs.declared.refusal.Refusal.the-variants.{NoRoom, NotACase}
 use Rattle.walk.specs.Run.{Read, read, wrong, then, fit, cellOf}
-use Rattle.taking.specs.Took.{wordOf, whyOf, Took, exact, large, stops, Taken, Celled}
+use Rattle.taking.specs.Took.{whyOf, Took, exact, large, stops, Taken, Celled}
 use Rattle.taking.specs.declared.own.Cell.{Cell}
 use Rattle.taking.specs.declared.own.Cell.the-variants.{Of, Stops}
 

@@ -13,7 +13,7 @@ use lib.Dec.{ltb}
 use lib.ListN.{length, take, drop, length-take}
 use borrow.Author.Tests.{ltb-true}
 use Rattle.numbers.specs.Pick.{pick}
-use Rattle.numbers.specs.Joined.{limit, capped}
+use Rattle.numbers.specs.Joined.{limit, capped, wordOf}
 use Rattle.graph.specs.Ways.{has}
 use Rattle.grammar.specs.Rule.{Tree, done, fails, takes}
 use Rattle.grammar.specs.Placed.{counted, placed}
@@ -25,7 +25,7 @@ use Rattle.grammar.specs.declared.kinds.Place.the-variants.{At, Nowhere}
 use Rattle.grammar.proofs.Words.{place-in}
 use Rattle.grammar.proofs.Places.{word-there, word-nowhere}
 use Rattle.walk.specs.Run.{Read, read, follow}
-use Rattle.taking.specs.Took.{wordOf, Taken, Celled}
+use Rattle.taking.specs.Took.{Taken, Celled}
 use Rattle.taking.specs.declared.own.Cell.{Cell}
 use Rattle.taking.specs.declared.own.Cell.the-variants.{Of, Stops}
 use Rattle.taking.proofs.Cells.{taken-done, taken-number, taken-fails, cell-stops, cell-in, cell-of}

@@ -14,11 +14,11 @@ use native.Mathlib.Omega.{arith}
 use lib.Dec.{ltb}
 use borrow.Author.Tests.{ltb-false}
 use Rattle.numbers.specs.Pick.{pick}
-use Rattle.numbers.specs.Joined.{limit, capped}
+use Rattle.numbers.specs.Joined.{limit, capped, wordOf}
 use Rattle.grammar.specs.Rule.{Tree, done, fails, takes, reads, Rule}
 use Rattle.grammar.specs.kinds.Below.{belowRule}
 use Rattle.walk.specs.Run.{Read, read, wrong, then, cellOf, follow, run}
-use Rattle.taking.specs.Took.{wordOf, Took, exact, large, stops, Taken}
+use Rattle.taking.specs.Took.{Took, exact, large, stops, Taken}
 use Rattle.taking.proofs.Cells.{restated, taken-large, taken-number, cell-then, first-stops, first-then}
 
 -- ---- a visit

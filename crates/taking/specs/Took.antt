@@ -1,5 +1,4 @@
 -- A reading walk's result in one word.
---   wordOf    a joined number
 --   whyOf     why nothing is read; `full` says whether the row ends where the case may have no more cells
 --   Took      what a word says of what is read: a number below the limit is exact, 2^63 is at least a bound that falls by one with each depth
 --   Taken     of a row that is the front of the cells, whatever cells and stop: 14 and 15 are told apart by them alone
@@ -14,8 +13,6 @@ use lib.Dec.{eqb, ltb, leb}
 use lib.ListN.{length, getD, take, drop}
 use Rattle.numbers.specs.Pick.{pick}
 use Rattle.numbers.specs.Joined.{limit}
-use Rattle.numbers.specs.declared.joined.Joined.{Joined}
-use Rattle.numbers.specs.declared.joined.Joined.the-variants.{Exact, Big}
 use Rattle.grammar.specs.declared.refusal.Refusal.{Refusal}
 use Rattle.grammar.specs.declared.refusal.Refusal.the-variants.{TooDeep, NoRoom, NotACase}
 use Rattle.grammar.specs.Kind.{Kind}
@@ -23,10 +20,6 @@ use Rattle.grammar.specs.Plan.{sizeIn, ruleIn}
 use Rattle.walk.specs.Run.{Read, read, wrong, follow, run}
 use Rattle.taking.specs.declared.own.Cell.{Cell}
 use Rattle.taking.specs.declared.own.Cell.the-variants.{Of, Stops}
-
-unfoldable pub wordOf : Joined → ℕ
-wordOf (Exact n) = n
-wordOf Big = 2 ^ 63
 
 abbrev pub whyOf : Bool → ℕ → Refusal
 whyOf full r = pick (eqb r (2 ^ 63 + 1)) TooDeep (pick (eqb r (2 ^ 63 + 2)) NotACase (pick full NoRoom NotACase))

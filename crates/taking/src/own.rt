@@ -1,5 +1,5 @@
 // The cells that a visit takes itself, and the word in which a visit hands back what it read: below 2^63 a
-// number; BIG; or, above it, why nothing is read. A cell that does not fit is not gone past.
+// number; BIG, which is 16 at the end, however many excepts take one off; or, above it, why nothing is read. A cell that does not fit is not gone past.
 ghost use mathlib.Core.Path.{_≡_};
 ghost use mathlib.Core.List.{List};
 ghost use Prim.Native.Nat.{ℕ, _+_, _^_, _≤_, _<_};
@@ -8,15 +8,12 @@ ghost use Rattle.grammar.specs.kinds.Below.{belowRule};
 ghost use Rattle.grammar.specs.kinds.Nats.{natsRule};
 ghost use Rattle.grammar.specs.kinds.Pool.{poolRule};
 ghost use Rattle.walk.specs.Run.{Read, follow};
-ghost use Rattle.taking.specs.Took.{wordOf, Celled, Taken};
+ghost use Rattle.taking.specs.Took.{Celled, Taken};
 use grammar::kinds::Place;
 use grammar::kinds::below;
 use grammar::kinds::pool;
-use numbers::joined::Joined;
 use numbers::joined::cap;
-
-// A number past the limit of `numbers::joined`: 16 at the end, however many excepts take one off.
-pub const BIG: u64 = 9223372036854775808;
+use numbers::joined::word;
 
 pub const DEEP: u64 = 9223372036854775809;
 
@@ -24,15 +21,6 @@ pub const UNFIT: u64 = 9223372036854775810;
 
 // The row's end: 14 where the case may have no more cells, else 15.
 pub const ENDED: u64 = 9223372036854775811;
-
-pub fn word(j: Joined) -> u64
-    ensures { λ r. ⌜ r ≡ wordOf j ⌝ }
-{
-    match j {
-        Joined::Exact(n) => n,
-        Joined::Big => BIG,
-    }
-}
 
 // The next cell, less what the shifts above take off; or why there is none.
 pub enum Cell {

@@ -9,17 +9,17 @@ ghost use Rattle.grammar.specs.kinds.Except.{except as exceptKind};
 ghost use Rattle.walk.specs.Run.{run};
 ghost use Rattle.walk.specs.Plan.{Reading, Choosing};
 ghost use Rattle.taking.specs.Took.{Taken, TakenBy};
-use super::own::BIG;
 use super::own::DEEP;
 use super::own::UNFIT;
 use super::own::any;
 use super::own::counted;
 use super::own::listed;
-use super::own::word;
 use grammar::kinds;
 use grammar::kinds::cons;
 use grammar::kinds::dep;
+use grammar::kinds::except;
 use grammar::kinds::or;
+use numbers::joined::BIG;
 
 // An or's tags, 0 and 1.
 const TAGS: u64 = 2;
@@ -46,14 +46,14 @@ fn tagged(
         if BIG <= m {
             return m;
         }
-        return word(or::join(*lent, 0, b, m));
+        return or::join(*lent, 0, b, m);
     }
     if tag == 1 {
         let m = take(lent, words, row, b, left, 0, at);
         if BIG <= m {
             return m;
         }
-        return word(or::join(*lent, 1, a, m));
+        return or::join(*lent, 1, a, m);
     }
     tag
 }
@@ -85,7 +85,7 @@ fn both(
     if BIG <= x {
         return BIG;
     }
-    word(cons::join(*lent, a, b, x, y))
+    cons::join(*lent, a, b, x, y)
 }
 
 // dep: the first part, and the second that its number chooses. That number is below 256, so never BIG.
@@ -114,7 +114,7 @@ fn chosen(
     if BIG <= y {
         return y;
     }
-    word(dep::join(*lent, pool, a, b, x, y))
+    dep::join(*lent, pool, a, b, x, y)
 }
 
 // except: a part at another number than b. 15: "the case an except removed (met after its last cell)"
@@ -140,7 +140,7 @@ fn without(
     if m == b {
         return UNFIT;
     }
-    word(numbers::except::join(b, m))
+    except::join(b, m)
 }
 
 // "Reading walks the same nodes from cells": the walk calls itself on parts, and the depth left falls.

@@ -3,7 +3,7 @@ ghost use mathlib.Core.Path.{_≡_};
 ghost use mathlib.Core.List.{List, [], _∷_};
 ghost use Prim.Native.Nat.{ℕ, _+_, _*_, _<_, _≤_};
 ghost use lib.ListN.{length, getD};
-ghost use Rattle.numbers.specs.Joined.{capped};
+ghost use Rattle.numbers.specs.Joined.{capped, wordOf};
 ghost use Rattle.numbers.specs.Cons;
 ghost use Rattle.grammar.specs.Nodes.{nodeWith};
 ghost use Rattle.grammar.specs.Rule.{part};
@@ -13,7 +13,7 @@ use super::super::refusal::Refusal;
 use super::Two;
 use super::Weighed;
 use super::of_measured;
-use numbers::joined::Joined;
+use numbers::joined::word;
 use numbers::size;
 
 pub fn check(plan: &[u64], n: usize, a: usize, b: usize) -> Weighed
@@ -47,9 +47,9 @@ pub fn step(plan: &[u64], a: usize, b: usize, n: u64) -> Two
 }
 
 // The number of a cons's case: x and y are its parts' numbers.
-pub fn join(plan: &[u64], a: usize, b: usize, x: u64, y: u64) -> Joined
+pub fn join(plan: &[u64], a: usize, b: usize, x: u64, y: u64) -> u64
     requires { ⌜ (4 * a + 3 < length (now plan)) × (4 * b + 3 < length (now plan)) ⌝ }
-    ensures { λ r. ⌜ r ≡ capped (Cons.join (sizeIn (now (plan .entry)) a) (sizeIn (now (plan .entry)) b) x y) ⌝ }
+    ensures { λ r. ⌜ r ≡ wordOf (capped (Cons.join (sizeIn (now (plan .entry)) a) (sizeIn (now (plan .entry)) b) x y)) ⌝ }
 {
-    numbers::cons::join(plan[4 * a + 3], plan[4 * b + 3], x, y)
+    word(numbers::cons::join(plan[4 * a + 3], plan[4 * b + 3], x, y))
 }

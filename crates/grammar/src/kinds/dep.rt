@@ -5,7 +5,7 @@ ghost use mathlib.Core.List.{List, [], _∷_};
 ghost use Prim.Native.Nat.{ℕ, _+_, _*_, _^_, _<_, _≤_};
 ghost use lib.ListN.{length, getD, take, drop};
 ghost use Rattle.numbers.specs.Size.{Size};
-ghost use Rattle.numbers.specs.Joined.{capped};
+ghost use Rattle.numbers.specs.Joined.{capped, wordOf};
 ghost use Rattle.numbers.specs.Dep.{inTurn};
 ghost use Rattle.numbers.specs.Dep;
 ghost use Rattle.grammar.specs.Checks.{count as countOf};
@@ -23,6 +23,7 @@ use super::Two;
 use super::Weighed;
 use numbers::cons::Pair;
 use numbers::joined::Joined;
+use numbers::joined::word;
 use numbers::size::ENDLESS;
 use numbers::size::LARGEST;
 
@@ -158,7 +159,7 @@ fn before(plan: &[u64], pool: &[u64], b: usize, x: usize) -> u64
 }
 
 // The number of a dep's case: x is the first part's number, y that of the second that it chooses.
-pub fn join(plan: &[u64], pool: &[u64], a: usize, b: usize, x: u64, y: u64) -> Joined
+fn joined(plan: &[u64], pool: &[u64], a: usize, b: usize, x: u64, y: u64) -> Joined
     requires { ⌜ DepIn (now plan) (now pool) a b × (x < firsts (now plan) a) ⌝ }
     ensures { λ r. ⌜ r ≡ capped (Dep.join (secondsOf (sizeIn (now (plan .entry))) (take (firsts (now (plan .entry)) a) (drop b (now (pool .entry))))) x y) ⌝ }
 {
@@ -168,6 +169,13 @@ pub fn join(plan: &[u64], pool: &[u64], a: usize, b: usize, x: u64, y: u64) -> J
         return numbers::dep::join_finite(sum, y);
     }
     numbers::dep::join_endless(plan[4 * a + 3], x, y)
+}
+
+pub fn join(plan: &[u64], pool: &[u64], a: usize, b: usize, x: u64, y: u64) -> u64
+    requires { ⌜ DepIn (now plan) (now pool) a b × (x < firsts (now plan) a) ⌝ }
+    ensures { λ r. ⌜ r ≡ wordOf (capped (Dep.join (secondsOf (sizeIn (now (plan .entry))) (take (firsts (now (plan .entry)) a) (drop b (now (pool .entry))))) x y)) ⌝ }
+{
+    word(joined(plan, pool, a, b, x, y))
 }
 
 // "to a dep's first and each second"

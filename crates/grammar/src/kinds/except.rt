@@ -3,11 +3,14 @@ ghost use mathlib.Core.Path.{_≡_};
 ghost use mathlib.Core.List.{List};
 ghost use Prim.Native.Nat.{ℕ, _+_, _*_, _≤_};
 ghost use lib.ListN.{length};
+ghost use Rattle.numbers.specs.Except;
+ghost use Rattle.numbers.specs.Joined.{capped, wordOf};
 ghost use Rattle.grammar.specs.Nodes.{nodeWith};
 ghost use Rattle.grammar.specs.kinds.Except.{except};
 ghost use Rattle.grammar.specs.Plan.{sizeIn, weighed};
 use super::super::refusal::Refusal;
 use super::Weighed;
+use numbers::joined::word;
 use numbers::size;
 use numbers::size::LARGEST;
 
@@ -29,4 +32,12 @@ pub fn check(plan: &[u64], n: usize, a: usize, b: u64) -> Weighed
         return Weighed::Fault(Refusal::Range);
     }
     Weighed::Of(size::one_less(s))
+}
+
+// The number of an except's case: m is the part's, and not the removed one.
+pub fn join(b: u64, m: u64) -> u64
+    requires { ⌜ (m ≡ b → ⊥) ⌝ }
+    ensures { λ r. ⌜ r ≡ wordOf (capped (Except.join b m)) ⌝ }
+{
+    word(numbers::except::join(b, m))
 }

@@ -4,7 +4,7 @@ ghost use mathlib.Core.List.{List, [], _∷_};
 ghost use Prim.Native.Nat.{ℕ, _+_, _*_, _<_, _≤_};
 ghost use lib.ListN.{length};
 ghost use Rattle.numbers.specs.Pick.{pick};
-ghost use Rattle.numbers.specs.Joined.{capped};
+ghost use Rattle.numbers.specs.Joined.{capped, wordOf};
 ghost use Rattle.numbers.specs.Or;
 ghost use Rattle.grammar.specs.Nodes.{nodeWith};
 ghost use Rattle.grammar.specs.Rule.{own, part};
@@ -18,7 +18,7 @@ use super::super::refusal::Refusal;
 use super::Tagged;
 use super::Weighed;
 use super::of_measured;
-use numbers::joined::Joined;
+use numbers::joined::word;
 use numbers::or::Part;
 use numbers::size;
 
@@ -67,9 +67,9 @@ pub fn step(plan: &[u64], a: usize, b: usize, n: u64) -> Tagged
 }
 
 // The number of an or's case: m is the number of the part with this tag; c is the other part.
-pub fn join(plan: &[u64], tag: u64, c: usize, m: u64) -> Joined
+pub fn join(plan: &[u64], tag: u64, c: usize, m: u64) -> u64
     requires { ⌜ (tag ≤ 1) × (4 * c + 3 < length (now plan)) ⌝ }
-    ensures { λ r. ⌜ r ≡ capped (Or.turn tag (sizeIn (now (plan .entry)) c) m) ⌝ }
+    ensures { λ r. ⌜ r ≡ wordOf (capped (Or.turn tag (sizeIn (now (plan .entry)) c) m)) ⌝ }
 {
-    numbers::or::turned(tag, plan[4 * c + 3], m)
+    word(numbers::or::turned(tag, plan[4 * c + 3], m))
 }

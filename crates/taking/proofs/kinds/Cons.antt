@@ -5,7 +5,7 @@ use mathlib.Core.List.{List}
 use Prim.Native.Nat.{ℕ, _+_, _-_, _^_, _≤_, _<_}
 use native.Mathlib.Omega.{arith}
 use Rattle.numbers.specs.Cons
-use Rattle.numbers.specs.Joined.{capped}
+use Rattle.numbers.specs.Joined.{capped, wordOf}
 use Rattle.numbers.proofs.cons.Laws as Conses
 use Rattle.grammar.specs.Rule.{done, reads}
 use Rattle.grammar.specs.Plan.{sizeIn, ruleIn}
@@ -13,7 +13,7 @@ use Rattle.grammar.specs.kinds.Cons.{cons as consKind}
 use Rattle.grammar.specs.kinds.Cons.{consRule}
 use Rattle.walk.specs.Run.{Read, run}
 use Rattle.walk.specs.Plan.{Reading}
-use Rattle.taking.specs.Took.{wordOf, Taken, TakenBy}
+use Rattle.taking.specs.Took.{Taken, TakenBy}
 use Rattle.taking.proofs.Takes.{part-stops, two-stays, two-big, two-number}
 
 module _ (plan p : List ℕ) (a b left off : ℕ) {row : List ℕ} {at e x : ℕ} (h : Taken (2 ^ 62 + (201 - left)) (run (ruleIn plan p) left off a) row at e x) where

@@ -11,7 +11,7 @@ use lib.Dec.{ltb}
 use lib.ListN.{getD, take, drop}
 use borrow.Author.Tests.{ltb-true, ltb-false}
 use Rattle.numbers.specs.Dep
-use Rattle.numbers.specs.Joined.{capped}
+use Rattle.numbers.specs.Joined.{capped, wordOf}
 use Rattle.graph.proofs.Marks.{le-or-lt}
 use Rattle.grammar.specs.Rule.{Tree, done, reads}
 use Rattle.grammar.specs.Plan.{sizeIn, ruleIn}
@@ -23,7 +23,7 @@ use Rattle.walk.specs.Plan.{Choosing}
 use Rattle.walk.proofs.Only.{only}
 use Rattle.walk.proofs.Nodes.{tree-of}
 use Rattle.walk.proofs.kinds.Dep.{dep-by, first-of, second-of, dep-least}
-use Rattle.taking.specs.Took.{wordOf, Taken, TakenBy}
+use Rattle.taking.specs.Took.{Taken, TakenBy}
 use Rattle.taking.proofs.Cells.{seen-row}
 use Rattle.taking.proofs.Takes.{part-stops, two-stays, two-number}
 

@@ -9,7 +9,7 @@ use lib.Dec.{eqb}
 use borrow.Author.Tests.{eq-eqb, ne-eqb}
 use Rattle.numbers.specs.Pick.{pick}
 use Rattle.numbers.specs.Except
-use Rattle.numbers.specs.Joined.{capped}
+use Rattle.numbers.specs.Joined.{capped, wordOf}
 use Rattle.numbers.proofs.except.Laws as Excepts
 use Rattle.graph.proofs.Marks.{le-or-lt}
 use Rattle.grammar.specs.Rule.{Tree, done, fails}
@@ -17,7 +17,7 @@ use Rattle.grammar.specs.Plan.{ruleIn}
 use Rattle.grammar.specs.kinds.Except.{except as exceptKind}
 use Rattle.grammar.specs.kinds.Except.{exceptRule}
 use Rattle.walk.specs.Run.{Read, follow, run}
-use Rattle.taking.specs.Took.{wordOf, Taken, TakenBy}
+use Rattle.taking.specs.Took.{Taken, TakenBy}
 use Rattle.taking.proofs.Cells.{taken-large, taken-number, taken-fails}
 use Rattle.taking.proofs.Takes.{part-stops, part-then}
 

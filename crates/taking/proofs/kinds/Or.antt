@@ -9,7 +9,7 @@ use lib.ListN.{length}
 use borrow.Author.Tests.{ne-eqb}
 use Rattle.numbers.specs.Pick.{pick}
 use Rattle.numbers.specs.Or
-use Rattle.numbers.specs.Joined.{limit, capped}
+use Rattle.numbers.specs.Joined.{limit, capped, wordOf}
 use Rattle.numbers.specs.declared.or.Part.the-variants.{First, Second}
 use Rattle.numbers.proofs.or.Laws as Ors
 use Rattle.grammar.specs.Rule.{Tree, done, fails, reads}
@@ -19,7 +19,7 @@ use Rattle.grammar.specs.kinds.Or.{or as orKind}
 use Rattle.grammar.specs.kinds.Or.{orRule}
 use Rattle.grammar.specs.declared.refusal.Refusal.the-variants.{NotACase}
 use Rattle.walk.specs.Run.{Read, wrong, follow, run}
-use Rattle.taking.specs.Took.{wordOf, Taken, TakenBy}
+use Rattle.taking.specs.Took.{Taken, TakenBy}
 use Rattle.taking.proofs.Takes.{tag-stops, tag-then, last-stays, last-number}
 
 -- what parts read does not matter to a tag

@@ -3,7 +3,7 @@
 use mathlib.Core.Path.{ap, _∙_}
 use native.Mathlib.Omega.{arith}
 use borrow.Author.Needs.{needs}
-use Rattle.taking.specs.Took.{wordOf}
+use Rattle.numbers.specs.Joined.{wordOf}
 use Rattle.taking.proofs.Leaves.{any-stops, any-number}
 use Rattle.taking.proofs.own.any.Statement.{statement}
 use Rattle.taking.proofs.own.any.Tie as tie

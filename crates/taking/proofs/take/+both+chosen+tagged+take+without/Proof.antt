@@ -1,12 +1,11 @@
 -- `taking::take::take` is what the reading walk reads; `tagged`, `both`, `chosen` and `without` what a visit of an or, a cons, a dep and an
 -- except reads. The measure is twice the depth left, and one more for those four. Each arm of the walk is its kind's tree.
 -- Assumes nothing.
-use mathlib.Core.Path.{refl, sym, ap, _∙_}
+use mathlib.Core.Path.{refl, sym}
 use mathlib.Core.Logic.{⊎-elim}
 use Prim.Native.Nat.{ℕ, _+_, _*_, _^_, _<_}
 use native.Mathlib.Nat.{add-zero}
 use native.Mathlib.Omega.{arith}
-use borrow.Author.Needs.{needs}
 use borrow.Fn.Kinds.{In}
 use borrow.Fn.PlainCycle.{Measures, is, falls, and}
 use Rattle.graph.proofs.Marks.{le-or-lt}
@@ -21,7 +20,6 @@ use Rattle.walk.proofs.kinds.Dep.{choosing, dep-rule, second-place}
 use Rattle.walk.proofs.kinds.Except.{except-lower, except-small, except-rule}
 use Rattle.walk.proofs.kinds.Fix.{fix-reads, fix-tree}
 use Rattle.walk.proofs.kinds.Again.{again-reads, again-tree}
-use Rattle.taking.specs.Took.{wordOf}
 use Rattle.taking.proofs.Calls.{part-first, part-next, visit-part, visit-shift, visit-shape, visit-tagged}
 use Rattle.taking.proofs.Takes.{deep-taken, tree-taken, pass-taken}
 use Rattle.taking.proofs.kinds.Or.{tag-inside, or-stops, first-stays, first-number, second-stays, second-number}
@@ -46,11 +44,10 @@ use Rattle.taking.proofs.take.+both+chosen+tagged+take+without.Lts-with
 use Rattle.grammar.proofs.kinds.cons.join.Reads as cons-join
 use Rattle.grammar.proofs.kinds.dep.join.Reads as dep-join
 use Rattle.grammar.proofs.kinds.or.join.Reads as or-join
-use Rattle.numbers.proofs.except.join.Reads as except-join
+use Rattle.grammar.proofs.kinds.except.join.Reads as except-join
 use Rattle.taking.proofs.own.any.Reads as any
 use Rattle.taking.proofs.own.counted.Reads as counted
 use Rattle.taking.proofs.own.listed.Reads as listed
-use Rattle.taking.proofs.own.word.Reads as word
 use Rattle.taking.proofs.take.+both+chosen+tagged+take+without.{statement}
 use Rattle.taking.proofs.take.+both+chosen+tagged+take+without.Tie.{close}
 
@@ -122,7 +119,7 @@ module _ (t : ℕ) where
 
 pub +both+chosen+tagged+take+without-spec : {M : Type 1} → statement M
 +both+chosen+tagged+take+without-spec = close μ-both μ-chosen μ-tagged μ-take μ-without
-    (λ t. both-lts.spec (take-below t, take.Post, cons-join.Asked, cons-join.Learnt, word.Asked, word.Learnt) (both-at t) both.Post
+    (λ t. both-lts.spec (take-below t, take.Post, cons-join.Asked, cons-join.Learnt) (both-at t) both.Post
     (λ c κs. part-first (c .before .pre .0) _ _ (c .before .pre .1 .1) (c .before .pre .1 .0 .0))
     (λ c. cons-stops _ _ _ _ _ _ (c .before .take .ensures) (c .if1 .taken))
     (λ c κs. let at-take = c .before .before in let at-pre = at-take .before .before in part-next (at-pre .pre .0) (at-pre .pre .1 .1 .0)
@@ -136,12 +133,11 @@ pub +both+chosen+tagged+take+without-spec : {M : Type 1} → statement M
       reads-in
           (at-pre .pre .1 .0 .1),
     ))
-    (λ c κs. search needs)
-    (λ c. let at-if3 = c .before .before .before in let at-if2 = at-if3 .before in let at-take2 = at-if2 .before in let at-if1 = at-take2 .before .before in
-    let at-take = at-if1 .before in let at-pre = at-take .before .before in cons-number _ _ _ _ _ _ (at-take .take .ensures) (at-pre .pre .1 .0)
+    (λ c. let at-if3 = c .before .before in let at-if2 = at-if3 .before in let at-take2 = at-if2 .before in let at-if1 = at-take2 .before .before in let
+    at-take = at-if1 .before in let at-pre = at-take .before .before in cons-number _ _ _ _ _ _ (at-take .take .ensures) (at-pre .pre .1 .0)
     (at-if1 .if1 .left) (at-take2 .take2 .ensures) (at-if2 .if2 .left) (at-if3 .if3 .left)
-    (c .word .ensures ∙ ap wordOf (c .before .join .ensures))))
-    (λ t. chosen-lts.spec (take-below t, take.Post, dep-join.Asked, dep-join.Learnt, word.Asked, word.Learnt) (chosen-at t) chosen.Post
+    (c .join .ensures)))
+    (λ t. chosen-lts.spec (take-below t, take.Post, dep-join.Asked, dep-join.Learnt) (chosen-at t) chosen.Post
     (λ c κs. part-first (c .before .pre .0) _ _ (c .before .pre .1 .1) (c .before .pre .1 .0 .first))
     (λ c. let at-pre = c .before .before .before in dep-stops (at-pre .pre .1 .0) _ _ (c .before .take .ensures) (c .if1 .taken))
     (λ c. let at-take = c .before .before in let at-pre = at-take .before .before in let q = second-place (at-pre .pre .1 .0) _
@@ -158,32 +154,26 @@ pub +both+chosen+tagged+take+without-spec : {M : Type 1} → statement M
     (c .before .take2 .ensures) (c .if2 .taken))
     (λ c κs. let at-if1 = c .before .before .before .before .before .before in let at-take = at-if1 .before in let at-pre = at-take .before .before in
     (at-pre .pre .1 .0 .words, dep-first (at-pre .pre .1 .0) _ _ (at-take .take .ensures) (omega (arith, at-if1 .if1 .left)) .1))
-    (λ c κs. search needs)
-    (λ c. let at-if2 = c .before .before .before in let at-take2 = at-if2 .before in let at-if1 = at-take2 .before .before .before .before in let at-take =
+    (λ c. let at-if2 = c .before .before in let at-take2 = at-if2 .before in let at-if1 = at-take2 .before .before .before .before in let at-take =
     at-if1 .before in let at-pre = at-take .before .before in dep-number (at-pre .pre .1 .0) _ _ (at-take .take .ensures)
     (dep-first (at-pre .pre .1 .0) _ _ (at-take .take .ensures) (omega (arith, at-if1 .if1 .left))) (at-take2 .take2 .ensures) (at-if2 .if2 .left)
-    (c .word .ensures ∙ ap wordOf (c .before .join .ensures))))
-    (λ t. tagged-lts.spec (counted.Asked, counted.Learnt, take-below t, take.Post, or-join.Asked, or-join.Learnt, word.Asked, word.Learnt) (tagged-at t)
-    tagged.Post
+    (c .join .ensures)))
+    (λ t. tagged-lts.spec (counted.Asked, counted.Learnt, take-below t, take.Post, or-join.Asked, or-join.Learnt) (tagged-at t) tagged.Post
     (λ c κs. (omega arith, c .before .pre .1 .1 .1, c .before .pre .1 .1 .2))
     (λ c κs. let at-counted = c .before .before in let at-pre = at-counted .before .before in part-next (at-pre .pre .0) (at-pre .pre .1 .1 .0)
     (tag-inside _ (at-counted .counted .ensures .1) (omega (arith, c .before .if1 .taken))) (at-pre .pre .1 .1 .2) (at-pre .pre .1 .0 .0))
     (λ c. let at-if1 = c .before .before .before in let at-counted = at-if1 .before in first-stays _ _ _ _ _ _ (at-counted .counted .ensures .1)
     (at-if1 .if1 .taken) (c .before .take .ensures) (c .if2 .taken))
     (λ c κs. let at-pre = c .before .before .before .before .before .before .before in (omega arith, reads-in (at-pre .pre .1 .0 .1)))
-    (λ c κs. search needs)
-    (λ c. let at-if2 = c .before .before .before in let at-take = at-if2 .before in let at-if1 = at-take .before .before in let at-counted = at-if1 .before in
-    first-number _ _ _ _ _ _ (at-counted .counted .ensures .1) (at-if1 .if1 .taken) (at-take .take .ensures) (at-if2 .if2 .left)
-    (c .word .ensures ∙ ap wordOf (c .before .join .ensures)))
+    (λ c. let at-if2 = c .before .before in let at-take = at-if2 .before in let at-if1 = at-take .before .before in let at-counted = at-if1 .before in
+    first-number _ _ _ _ _ _ (at-counted .counted .ensures .1) (at-if1 .if1 .taken) (at-take .take .ensures) (at-if2 .if2 .left) (c .join .ensures))
     (λ c κs. let at-counted = c .before .before .before in let at-pre = at-counted .before .before in part-next (at-pre .pre .0) (at-pre .pre .1 .1 .0)
     (tag-inside _ (at-counted .counted .ensures .1) (omega (arith, c .before .if3 .taken))) (at-pre .pre .1 .1 .2) (at-pre .pre .1 .0 .1))
     (λ c. let at-if3 = c .before .before .before in let at-counted = at-if3 .before .before in second-stays _ _ _ _ _ _ (at-counted .counted .ensures .1)
     (at-if3 .if3 .taken) (c .before .take2 .ensures) (c .if4 .taken))
     (λ c κs. let at-pre = c .before .before .before .before .before .before .before .before in (omega arith, reads-in (at-pre .pre .1 .0 .0)))
-    (λ c κs. search needs)
-    (λ c. let at-if4 = c .before .before .before in let at-take2 = at-if4 .before in let at-if3 = at-take2 .before .before in let at-counted =
-    at-if3 .before .before in second-number _ _ _ _ _ _ (at-counted .counted .ensures .1) (at-if3 .if3 .taken) (at-take2 .take2 .ensures) (at-if4 .if4 .left)
-    (c .word2 .ensures ∙ ap wordOf (c .before .join2 .ensures)))
+    (λ c. let at-if4 = c .before .before in let at-take2 = at-if4 .before in let at-if3 = at-take2 .before .before in let at-counted = at-if3 .before .before
+    in second-number _ _ _ _ _ _ (at-counted .counted .ensures .1) (at-if3 .if3 .taken) (at-take2 .take2 .ensures) (at-if4 .if4 .left) (c .join2 .ensures))
     (λ c. let at-counted = c .before .before in or-stops _ _ _ _ _ _ (at-counted .counted .ensures .1)
     (⊎-elim (λ l. absurd (omega (arith, at-counted .counted .ensures .0 l, c .before .if1 .left, c .if3 .left))) (λ l. l) (le-or-lt _ (2 ^ 63)))))
     (λ t. take-lts.spec (calls t) (take-at t) take.Post
@@ -262,12 +252,11 @@ pub +both+chosen+tagged+take+without-spec : {M : Type 1} → statement M
     (λ c. let at-match = c .before .before in let at-if1 = at-match .before .before .before .before .before in pass-taken _ _ _ (at-if1 .if1 .left)
     (again-tree _ _ _ (at-match .match .keys10)) (sym (add-zero _)) (omega arith) (c .take3 .ensures))
     (λ c. let at-pre = c .before .before .before .before .before .before in absurd (known (at-pre .pre .1 .0) (c .match .rest))))
-    (λ t. without-lts.spec (take-below t, take.Post, except-join.Asked, except-join.Learnt, word.Asked, word.Learnt) (without-at t) without.Post
+    (λ t. without-lts.spec (take-below t, take.Post, except-join.Asked, except-join.Learnt) (without-at t) without.Post
     (λ c κs. part-first (c .before .pre .0) _ _ (c .before .pre .1 .1) (c .before .pre .1 .0 .0))
     (λ c. let at-pre = c .before .before .before in except-stays _ _ _ _ _ _ (c .before .take .ensures) (at-pre .pre .1 .1 .0) (at-pre .pre .1 .0 .1)
     (c .if1 .taken))
     (λ c. let at-take = c .before .before in except-unfit _ _ _ _ _ _ (at-take .take .ensures) (c .before .if1 .left) (c .if2 .taken))
     (λ c κs. c .if2 .left)
-    (λ c κs. search needs)
-    (λ c. let at-if2 = c .before .before in let at-if1 = at-if2 .before in let at-take = at-if1 .before in except-number _ _ _ _ _ _ (at-take .take .ensures)
-    (at-if1 .if1 .left) (at-if2 .if2 .left) (c .word .ensures ∙ ap wordOf (c .before .join .ensures))))
+    (λ c. let at-if1 = c .before .before in let at-take = at-if1 .before in except-number _ _ _ _ _ _ (at-take .take .ensures) (at-if1 .if1 .left)
+    (c .before .if2 .left) (c .join .ensures)))

@@ -1,9 +1,9 @@
--- `taking::own::word` is a joined number as a word.
+-- `numbers::joined::word` is a joined number as a word.
 -- Assumes nothing.
 use borrow.Author.Needs.{needs}
-use Rattle.taking.specs.Took.{wordOf}
-use Rattle.taking.proofs.own.word.Statement.{statement}
-use Rattle.taking.proofs.own.word.Tie as tie
+use Rattle.numbers.specs.Joined.{wordOf}
+use Rattle.numbers.proofs.joined.word.Statement.{statement}
+use Rattle.numbers.proofs.joined.word.Tie as tie
 
 pub word-spec : {M : Type 1} → statement M
 unfolding wordOf
