@@ -80,8 +80,8 @@ module _ (s : State) (table pool line : List ℕ) where
   line-call f {size} e q = rw (not-false (s .known) f, q, part-old size line, e)
 
 -- ---- a lent buffer that a call wrote to, and one that it left
-end-done : (n : ℕ) (cs old : List ℕ) {count : ℕ} {last : List ℕ} → count ≡ length cs → last ≡ over cs old → old ≡ startWords 0 n → endText last count ≡ bytes
-    "\n"
+end-done : (n : ℕ) (cs old : List ℕ) {count : ℕ} {last : List ℕ} → count ≡ length cs → last ≡ over cs old → old ≡ startWords 0 n
+    → endText last count ≡ bytes "\n"
 unfolding endText
 end-done n cs old size holds start = rw (holds, size, over-back cs old, start, start-kept n (length cs))
 
@@ -112,8 +112,8 @@ module _ {t p : List ℕ} {i : ℕ} {ws old last : List ℕ} {r : Rows.Row} (roo
     row-answer : writesRow t p i room ws ≡ r
     row-answer = sym (k .is ∙ ap (λ (m : ℕ). writesRow t p i m ws) (ap length start ∙ start-length 0 room))
 
-    pub row-done : {items count : ℕ} → r ≡ DoneRow items count → itemsText items ++ (cellsText count (take count last) ++ endText last count) ≡ wayText Writes
-        t p i room ws
+    pub row-done : {items count : ℕ} → r ≡ DoneRow items count
+        → itemsText items ++ (cellsText count (take count last) ++ endText last count) ≡ wayText Writes t p i room ws
     unfolding wayText rowText
     row-done e =
         let cs = rowOf (rulesOf t p) i ws in
@@ -130,8 +130,8 @@ module _ {t p : List ℕ} {i : ℕ} {ws old last : List ℕ} {r : Rows.Row} (roo
     got-answer : readsRow t p i room ws ≡ r
     got-answer = sym (k .is ∙ ap (λ (m : ℕ). readsRow t p i m ws) long)
 
-    pub got-done : {items count : ℕ} → r ≡ DoneRow items count → itemsText items ++ (cellsText count (take items last) ++ endText last items) ≡ wayText Reads
-        t p i room ws
+    pub got-done : {items count : ℕ} → r ≡ DoneRow items count
+        → itemsText items ++ (cellsText count (take items last) ++ endText last items) ≡ wayText Reads t p i room ws
     unfolding wayText rowText
     got-done e =
         let ns = gotten (gather (rulesOf t p) i (length old) ws) in
@@ -160,8 +160,8 @@ ask-none {row = row} = record { said = []; times = suc (length row); enough = om
 
 module _ {t p : List ℕ} {i : ℕ} {row page now : List ℕ} {used waits at : ℕ} (s : Asking t p i row page used now waits at) {next : Stride}
     (e : next ≡ strideOf t p i row at) where
-  asks-step : (times : ℕ) → length row - at < times → {x : Next} → next .answer ≡ x → (f : ℕ) × (times ≡ suc f) ×
-      (asksBy times t p i row at ≡ onward x (asksBy f t p i row (next .at)))
+  asks-step : (times : ℕ) → length row - at < times → {x : Next} → next .answer ≡ x
+      → (f : ℕ) × (times ≡ suc f) × (asksBy times t p i row at ≡ onward x (asksBy f t p i row (next .at)))
   unfolding asksBy
   asks-step zero l q = absurd (omega arith)
   asks-step (suc f) l q = (
@@ -178,8 +178,8 @@ module _ {t p : List ℕ} {i : ℕ} {row page now : List ℕ} {used waits at : �
       let to = ap (λ (x : Stride). x .at) e ∙ ap (afterOf at) is in
       omega arith
 
-  pub ask-more : {n k : ℕ} → next .answer ≡ Item n k → {last : List ℕ} {r : ℕ} → Puts (itemText n k) now waits last r → Asking t p i row page used last r
-      (next .at)
+  pub ask-more : {n k : ℕ} → next .answer ≡ Item n k → {last : List ℕ} {r : ℕ} → Puts (itemText n k) now waits last r
+      → Asking t p i row page used last r (next .at)
   ask-more {n} {k} q g =
       let (f, less, text) = asks-step (s .times) (s .enough) q in
       record {
@@ -193,6 +193,6 @@ module _ {t p : List ℕ} {i : ℕ} {row page now : List ℕ} {used waits at : �
   pub ask-end : next .answer ≡ End → {last : List ℕ} {r : ℕ} → Puts (bytes "end\n") now waits last r → Puts (asksText t p i row) page used last r
   ask-end q g = let (f, less, text) = asks-step (s .times) (s .enough) q in told (sym (s .is ∙ ap (λ (y : List ℕ). s .said ++ y) text)) (s .so-far then g)
 
-  pub ask-refused : {x : Refusal} {k : ℕ} → next .answer ≡ NoNext x k → {last : List ℕ} {r : ℕ} → Puts (refusedLine x k) now waits last r → Puts
-      (asksText t p i row) page used last r
+  pub ask-refused : {x : Refusal} {k : ℕ} → next .answer ≡ NoNext x k → {last : List ℕ} {r : ℕ} → Puts (refusedLine x k) now waits last r
+      → Puts (asksText t p i row) page used last r
   ask-refused q g = let (f, less, text) = asks-step (s .times) (s .enough) q in told (sym (s .is ∙ ap (λ (y : List ℕ). s .said ++ y) text)) (s .so-far then g)

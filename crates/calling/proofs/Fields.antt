@@ -28,8 +28,8 @@ module _ (f : ℕ → List ℕ → List ℕ) {rest old last : List ℕ} {r : Tak
   pub cells-none : r ≡ Unreadable → unreadableText ≡ withCells f (fieldsOf rest)
   cells-none e = by (fieldsOf rest) (sym (k .answers) ∙ e)
     where
-      long : (i : ℕ) (cs : List ℕ) (next : ℕ) (q : Bool) → leb (length cs) mostRow ≡ q → takenBy 1 (numbers (i ∷ cs) next) ≡ Unreadable → unreadableText ≡
-          withCells f (numbers (i ∷ cs) next)
+      long : (i : ℕ) (cs : List ℕ) (next : ℕ) (q : Bool) → leb (length cs) mostRow ≡ q → takenBy 1 (numbers (i ∷ cs) next) ≡ Unreadable
+          → unreadableText ≡ withCells f (numbers (i ∷ cs) next)
       long i cs next true t u =
           let g : takenBy 1 (numbers (i ∷ cs) next) ≡ Count (length (i ∷ cs)) =
           rw (le-leb 1 (length (i ∷ cs)) (omega arith), le-leb (length (i ∷ cs)) (1 + mostRow) (omega (arith, leb-true (length cs) mostRow t))) in
@@ -42,9 +42,8 @@ module _ (f : ℕ → List ℕ → List ℕ) {rest old last : List ℕ} {r : Tak
       by (numbers (i ∷ cs) next) u = long i cs next (leb (length cs) mostRow) refl u
       by unreadable u = refl
 
-  cells-by : (ns : List ℕ) (next : ℕ) (d : List ℕ) {count start : ℕ} {ws : List ℕ} → count ≡ length ns → ws ≡ ns ++ d → start ≡ getD ws 0 0 → 1 ≤ length ns →
-      length ns ≤ 1 + mostRow
-      → f start (take (count - 1) (drop 1 ws)) ≡ withCells f (numbers ns next)
+  cells-by : (ns : List ℕ) (next : ℕ) (d : List ℕ) {count start : ℕ} {ws : List ℕ} → count ≡ length ns → ws ≡ ns ++ d → start ≡ getD ws 0 0 → 1 ≤ length ns
+      → length ns ≤ 1 + mostRow → f start (take (count - 1) (drop 1 ws)) ≡ withCells f (numbers ns next)
   cells-by [] next d size holds o lo hi = absurd (omega arith)
   cells-by (i ∷ cs) next d {count} size holds o lo hi =
       let s : count - 1 ≡ length cs = omega (arith, size) in
@@ -66,13 +65,13 @@ pub record Lending (rest old last : List ℕ) (start room count : ℕ) : Type 0 
   pub beyond : List ℕ
   pub leaves : last ≡ (start ∷ room ∷ row) ++ beyond
 
-pub lending : {rest old last : List ℕ} {r : Lent} → TakesLent rest old last r → {start room count : ℕ} → r ≡ Of start room count → Lending rest old last start
-    room count
+pub lending : {rest old last : List ℕ} {r : Lent} → TakesLent rest old last r → {start room count : ℕ} → r ≡ Of start room count
+    → Lending rest old last start room count
 lending {rest} {old} {last} {r} k {start} {room} {count} e = by (fieldsOf rest) refl (sym (k .answers) ∙ e) (k .leaves)
   where
     long : (i m : ℕ) (ns : List ℕ) (next : ℕ) → fieldsOf rest ≡ numbers (i ∷ m ∷ ns) next → (a b : Bool) → leb (length ns) mostRow ≡ a → leb m mostRoom ≡ b
-        → cond (a && b) (Of i m (2 + length ns)) NotLent ≡ Of start room count → last ≡ stored old (within mostFields (numbers (i ∷ m ∷ ns) next)) → Lending
-        rest old last start room count
+        → cond (a && b) (Of i m (2 + length ns)) NotLent ≡ Of start room count → last ≡ stored old (within mostFields (numbers (i ∷ m ∷ ns) next))
+        → Lending rest old last start room count
     long i m ns next u true true v w f s =
         let si : i ≡ start = cc in
         let sm : m ≡ room = cc in

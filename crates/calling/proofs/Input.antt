@@ -114,9 +114,8 @@ abbrev Holds : State → ℕ → ℕ → Bool → ℕ → ℕ → Type 0
 Holds s at used known table pool = (s .at ≡ at) × (s .used ≡ used) × (s .known ≡ known) × (s .table ≡ table) × (s .pool ≡ pool)
 
 module _ {text : List ℕ} {at middle next : ℕ} (m : middle ≡ after text at) (x : next ≡ after text middle) {page : List ℕ} {used : ℕ} where
-  forgets : {table pool last : List ℕ} {waits : ℕ} {s : State} → tableAt text at ≡ nothing → Holds s next waits false 0 0 → Puts unreadableText page used last
-      waits
-      → Tables text at page used table pool last s
+  forgets : {table pool last : List ℕ} {waits : ℕ} {s : State} → tableAt text at ≡ nothing → Holds s next waits false 0 0
+      → Puts unreadableText page used last waits → Tables text at page used table pool last s
   unfolding knownOf
   forgets e (to, waits, known, few, small) g = record {
     to = to ∙ x ∙ ap (after text) m;
@@ -171,8 +170,8 @@ module _ (text : List ℕ) (s : State) (l : s .at < length text) {next : ℕ} (n
     tabled : isTable text (s .at) ≡ b
     tabled = sym (e ∙ ap (λ (xs : List ℕ). same xs (bytes "table\n")) line-is)
 
-    pub turn-table : b ≡ true → {table pool page table' pool' page' : List ℕ} {r : State} → Tables text next page (s .used) table' pool' page' r → Turns text
-        s table pool page table' pool' page' r
+    pub turn-table : b ≡ true → {table pool page table' pool' page' : List ℕ} {r : State} → Tables text next page (s .used) table' pool' page' r
+        → Turns text s table pool page table' pool' page' r
     unfolding saidAt nextAt nextKnown
     turn-table t {table} {pool} {page} {table'} {pool'} {page'} {r} k =
         let is : isTable text (s .at) ≡ true = tabled ∙ t in
@@ -187,9 +186,9 @@ module _ (text : List ℕ) (s : State) (l : s .at < length text) {next : ℕ} (n
           within = record { start = omega (arith, to, c); table = k .few; pool = k .small };
         }
 
-    pub turn-call : b ≡ false → {table pool page page' : List ℕ} {used : ℕ} → Puts (lineText (knownOf s table pool) (take (next - s .at) (drop (s .at) text)))
-        page (s .used) page' used
-        → Within text s → {r : State} → Holds r next used (s .known) (s .table) (s .pool) → Turns text s table pool page table pool page' r
+    pub turn-call : b ≡ false → {table pool page page' : List ℕ} {used : ℕ}
+        → Puts (lineText (knownOf s table pool) (take (next - s .at) (drop (s .at) text))) page (s .used) page' used → Within text s → {r : State}
+        → Holds r next used (s .known) (s .table) (s .pool) → Turns text s table pool page table pool page' r
     unfolding saidAt nextAt nextKnown knownOf
     turn-call t {table} {pool} g w (to, waits, known, c, d) =
         let is : isTable text (s .at) ≡ false = tabled ∙ t in
@@ -279,7 +278,7 @@ module _ {text page : List ℕ} {s : State} {table pool : List ℕ} (a : Answeri
       (a .said) in
       record { empty = a .empty; puts = rw (y, all) (a .so-far) }
 
-pub answer-not : (text : List ℕ) {b : Bool} → b ≡ readable text → not b ≡ true → {old page : List ℕ} {used waits : ℕ} → used ≡ 0 → Puts unreadableText old
-    used page waits → Waits (printed text) page waits
+pub answer-not : (text : List ℕ) {b : Bool} → b ≡ readable text → not b ≡ true → {old page : List ℕ} {used waits : ℕ} → used ≡ 0
+    → Puts unreadableText old used page waits → Waits (printed text) page waits
 unfolding printed
 answer-not text {b} e f {old} z g = let n : readable text ≡ false = sym e ∙ not-true b f in record { empty = old; puts = rw n (rw z at g) }

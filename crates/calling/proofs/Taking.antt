@@ -31,8 +31,8 @@ module _ {rest : List ℕ} {before : ℕ} (h : before ≤ 2) {old last : List �
   pub taken-none : r ≡ NoLine → Takes rest before old last Unreadable
   taken-none e = record { answers = by (fieldsOf rest) (read-unreadable k e .0); leaves = leaves' }
     where
-      many : (ns : List ℕ) (next : ℕ) (q : Bool) → leb (length ns) (length old) ≡ q → cond q (numbers ns next) unreadable ≡ unreadable → Unreadable ≡ takenBy
-          before (numbers ns next)
+      many : (ns : List ℕ) (next : ℕ) (q : Bool) → leb (length ns) (length old) ≡ q → cond q (numbers ns next) unreadable ≡ unreadable
+          → Unreadable ≡ takenBy before (numbers ns next)
       many ns next true t f = absurd (readable-not (sym f))
       many ns next false t f = rw (and-not (leb before (length ns)) (lt-leb (length ns) (before + mostRow)
           (omega (arith, leb-false (length ns) (length old) t))))
@@ -74,9 +74,8 @@ pub record Taking (rest : List ℕ) (before : ℕ) (old last : List ℕ) (count 
   pub hi : length ns ≤ before + mostRow
   pub leaves : last ≡ ns ++ drop (length ns) old
 
-counted : (before : ℕ) (ns : List ℕ) {count : ℕ} (a b : Bool) → leb before (length ns) ≡ a → leb (length ns) (before + mostRow) ≡ b → cond (a && b)
-    (Count (length ns)) Unreadable ≡ Count count
-    → (count ≡ length ns) × (before ≤ length ns) × (length ns ≤ before + mostRow)
+counted : (before : ℕ) (ns : List ℕ) {count : ℕ} (a b : Bool) → leb before (length ns) ≡ a → leb (length ns) (before + mostRow) ≡ b
+    → cond (a && b) (Count (length ns)) Unreadable ≡ Count count → (count ≡ length ns) × (before ≤ length ns) × (length ns ≤ before + mostRow)
 counted before ns {count} true true u v e = let s : length ns ≡ count = cc in (sym s, leb-true before (length ns) u, leb-true (length ns) (before + mostRow) v)
 counted before ns true false u v e = let z : _≡_ {A = ℕ} 0 1 = cc in absurd (omega arith)
 counted before ns false b u v e = let z : _≡_ {A = ℕ} 0 1 = cc in absurd (omega arith)
@@ -84,8 +83,8 @@ counted before ns false b u v e = let z : _≡_ {A = ℕ} 0 1 = cc in absurd (om
 pub within-room : (ns : List ℕ) (next : ℕ) {room : ℕ} → length ns ≤ room → within room (numbers ns next) ≡ numbers ns next
 within-room ns next {room} l = rw (le-leb (length ns) room l)
 
-pub taking : {rest : List ℕ} {before : ℕ} {old last : List ℕ} {r : Taken} → before ≤ 2 → Takes rest before old last r → {count : ℕ} → r ≡ Count count → Taking
-    rest before old last count
+pub taking : {rest : List ℕ} {before : ℕ} {old last : List ℕ} {r : Taken} → before ≤ 2 → Takes rest before old last r → {count : ℕ} → r ≡ Count count
+    → Taking rest before old last count
 taking {rest} {before} {old} {last} {r} h k {count} e = by (fieldsOf rest) refl (sym (k .answers) ∙ e) (k .leaves)
   where
     by : (x : Reading) → fieldsOf rest ≡ x → takenBy before x ≡ Count count → last ≡ stored old (within mostFields x) → Taking rest before old last count
@@ -128,9 +127,8 @@ module _ {rest old last : List ℕ} where
         let there : room ≡ getD (f .ns ++ drop (length (f .ns)) old) 1 0 = q ∙ ap (λ (ws : List ℕ). getD ws 1 0) (f .leaves) in
         record { answers = over (f .ns) (f .next) (drop (length (f .ns)) old) (f .lo) (f .hi) (rw there at l) ∙ sym (ap lentBy (f .is)); leaves = k .leaves }
 
-    all : (ns : List ℕ) (next : ℕ) (d : List ℕ) {start room : ℕ} → 2 ≤ length ns → length ns ≤ 2 + mostRow → start ≡ getD (ns ++ d) 0 0 → room ≡ getD
-        (ns ++ d) 1 0 → room ≤ mostRoom
-        → Of start room (length ns) ≡ lentBy (numbers ns next)
+    all : (ns : List ℕ) (next : ℕ) (d : List ℕ) {start room : ℕ} → 2 ≤ length ns → length ns ≤ 2 + mostRow → start ≡ getD (ns ++ d) 0 0
+        → room ≡ getD (ns ++ d) 1 0 → room ≤ mostRoom → Of start room (length ns) ≡ lentBy (numbers ns next)
     all [] next d lo hi o q l = absurd (omega arith)
     all (i ∷ []) next d lo hi o q l = absurd (omega arith)
     all (i ∷ m ∷ ns) next d {start} {room} lo hi o q l =

@@ -65,8 +65,8 @@ module _ (t p : List ℕ) (a : verdict t p ≡ Accepted) (i : ℕ) (l : i < node
   reads-on n cs rest q k c = back z (nodes t) (rulesOf t p) good depth 0 i n l (below k) cs (c .shows) q rest
 
   -- so `read`, which is for a whole case, refuses it
-  pub longer-refused : (n : ℕ) (cs : List ℕ) (c : ℕ) (more : List ℕ) → Asked (rulesOf t p i .size) n → Case (rulesOf t p) i n cs → reads t p i
-      (cs ++ (c ∷ more)) ≡ Refused NotACase 0
+  pub longer-refused : (n : ℕ) (cs : List ℕ) (c : ℕ) (more : List ℕ) → Asked (rulesOf t p i .size) n → Case (rulesOf t p) i n cs
+      → reads t p i (cs ++ (c ∷ more)) ≡ Refused NotACase 0
   longer-refused n cs c more q k =
       let room : length cs + (most - length cs) ≡ most = omega (arith, k .few) in
       reads-is t p a i l (cs ++ (c ∷ more)) ∙ left-over _ (rw room at (reads-on n cs (c ∷ more) (most - length cs) q k))

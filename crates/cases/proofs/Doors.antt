@@ -61,8 +61,8 @@ module _ (t p : List ℕ) (a : verdict t p ≡ Accepted) (i : ℕ) (l : i < node
   writes-by n room = rw (a, lt-ltb i (nodes t) l)
 
   -- the cells are few enough, so `write` is done
-  pub writes-is : (n room : ℕ) (cs : List ℕ) → Asked (rulesOf t p i .size) n → walk (rulesOf t p) depth 0 i n ≡ map cell cs → length cs ≤ roomFor room →
-      writes t p i n room ≡ Done (length cs)
+  pub writes-is : (n room : ℕ) (cs : List ℕ) → Asked (rulesOf t p i .size) n → walk (rulesOf t p) depth 0 i n ≡ map cell cs → length cs ≤ roomFor room
+      → writes t p i n room ≡ Done (length cs)
   writes-is n room cs q e k = writes-by n room ∙ ap wrote (fitted-is (rulesOf t p) i n room cs q e k)
 
   -- `write` is done, so the number may be asked for, and its walk meets cells only

@@ -95,9 +95,8 @@ module _ {plan p : List ℕ} {i : ℕ} (h : Reading plan p i) (n room : ℕ) {b 
     pub visits-of : Visits plan p i n
     visits-of = record { walks = h .walks; node = h .node; below = subst (Below n) (sym (h .walks .good .sized i (h .node))) (may .below) }
 
-    pub decided-walk : {most : ℕ} (w : ℕ) {f : Fit} → most ≡ roomFor room → f ≡ outcome most (leftOf w) → leftOf w ≡ tallied most
-        (walk (ruleIn plan p) depth 0 i n)
-        → f ≡ fitted (ruleIn plan p) i n room
+    pub decided-walk : {most : ℕ} (w : ℕ) {f : Fit} → most ≡ roomFor room → f ≡ outcome most (leftOf w)
+        → leftOf w ≡ tallied most (walk (ruleIn plan p) depth 0 i n) → f ≡ fitted (ruleIn plan p) i n room
     unfolding fitted
     decided-walk w m e l = e ∙ rw (is-so, l, m)
 
@@ -128,9 +127,8 @@ module _ {plan p : List ℕ} {i : ℕ} (h : Reading plan p i) (n : ℕ) {b : Boo
 
   -- the front of the buffer, as long as a case may be, is lent on
   module _ (yes : b ≡ true) {most : ℕ} (w : ℕ) {f : Fit} (m : most ≡ roomFor (length old)) (e : f ≡ outcome most (leftOf w)) where
-    pub fits-walk : {part last : List ℕ} → Laid (length (take most old)) (walk (ruleIn plan p) depth 0 i n) (take most old) part (leftOf w) → last ≡ part ++
-        drop most old
-        → FitOver (ruleIn plan p) i n old last f
+    pub fits-walk : {part last : List ℕ} → Laid (length (take most old)) (walk (ruleIn plan p) depth 0 i n) (take most old) part (leftOf w)
+        → last ≡ part ++ drop most old → FitOver (ruleIn plan p) i n old last f
     fits-walk {part} {last} l g =
         let long : length (take most old) ≡ most = sym (lent-long old m) in
         let is : leftOf w ≡ tallied most (walk (ruleIn plan p) depth 0 i n) = rw long at (l .is) in

@@ -108,8 +108,8 @@ module _ {t p plan : List ℕ} where
   pub settled-none : {marks : List ℕ} → SafeMarks t p plan marks → Settled t p plan marks 0
   settled-none s = record { le = omega arith; marked = s; all = λ k l. absurd (omega arith) }
 
-  pub settled-more : {marks next : List ℕ} {n : ℕ} → Settled t p plan marks n → n < nodes t → SafeMarks t p plan next → (getD next n 0 ≡ 0 → ⊥) → Settled t p
-      plan next (n + 1)
+  pub settled-more : {marks next : List ℕ} {n : ℕ} → Settled t p plan marks n → n < nodes t → SafeMarks t p plan next → (getD next n 0 ≡ 0 → ⊥)
+      → Settled t p plan next (n + 1)
   settled-more {marks} {next} {n} s l m f = record { le = omega arith; marked = m; all = below-more _ n (s .all) (m .safe n f) }
 
   pub settled-all : {marks : List ℕ} {n : ℕ} → Ready t p plan → Settled t p plan marks n → nodes t ≤ n → (k : ℕ) → Unguarded t p (sizeIn plan) k → ⊥

@@ -66,8 +66,8 @@ pub look-none : {buffer : List ℕ} {from : ℕ} → Looking buffer from from
 look-none = record { rest = refl }
 
 module _ {buffer : List ℕ} {from i : ℕ} (s : Looking buffer from i) where
-  at-word : i < length buffer → {b : Bool} → eqb (getD buffer i 0) (startWord i) ≡ b → changed from (drop from buffer) ≡ not b || changed (suc i)
-      (drop (suc i) buffer)
+  at-word : i < length buffer → {b : Bool} → eqb (getD buffer i 0) (startWord i) ≡ b
+      → changed from (drop from buffer) ≡ not b || changed (suc i) (drop (suc i) buffer)
   unfolding changed
   at-word l e = s .rest ∙ ap (changed i) (drop-cons buffer i 0 l) ∙ ap (λ (b : Bool). not b || changed (suc i) (drop (suc i) buffer)) e
 

@@ -32,8 +32,8 @@ longer : (line old : List ℕ) {last : List ℕ} {size : ℕ} → last ≡ front
 longer line old e s = omega (arith, s, ap length e ∙ length-append line (drop (length line) old))
 
 -- ---- the whole print
-judged-whole : (t p : List ℕ) (i at : ℕ) (v : Verdict) (lines : List ℕ) {size : ℕ} → openBy t p i at v ≡ Whole size → (size ≡ length (judged v [])) ×
-    (judged v [] ≡ judged v lines)
+judged-whole : (t p : List ℕ) (i at : ℕ) (v : Verdict) (lines : List ℕ) {size : ℕ} → openBy t p i at v ≡ Whole size
+    → (size ≡ length (judged v [])) × (judged v [] ≡ judged v lines)
 judged-whole t p i at Accepted lines e = let z : _≡_ {A = ℕ} 0 1 = cc in absurd (omega arith)
 judged-whole t p i at (Refused r k) lines {size} e = let s : length (judged (Refused r k) []) ≡ size = cc in (sym s, refl)
 
@@ -102,8 +102,8 @@ record Spoken (text : List ℕ) (at : ℕ) (t p : List ℕ) (i size next : ℕ) 
   one : oneAt text at ≡ Number n next
   size-is : size ≡ length (caseLine t p i n)
 
-spoken : (text : List ℕ) (at : ℕ) (t p : List ℕ) (i : ℕ) (o : One) → oneAt text at ≡ o → {size next : ℕ} → said t p i o ≡ Line size next → Spoken text at t p
-    i size next
+spoken : (text : List ℕ) (at : ℕ) (t p : List ℕ) (i : ℕ) (o : One) → oneAt text at ≡ o → {size next : ℕ} → said t p i o ≡ Line size next
+    → Spoken text at t p i size next
 spoken text at t p i (Number n after) e {size} {next} f =
     let s : length (caseLine t p i n) ≡ size = cc in
     let a : after ≡ next = cc in

@@ -27,8 +27,8 @@ use Rattle.printing.proofs.Outcomes.{accepted, table-words, pool-words,
 -- each page begins as the one before has left it, or anyhow: its rest is not printed
 pub data Turns (text t p : List ℕ) (i : ℕ) : ℕ → List ℕ → Type 0 where
   stop : {at : ℕ} {old last : List ℕ} → Answers text at t p i old last Nothing → Turns text t p i at []
-  turn : {at size next : ℕ} {old last rest : List ℕ} → Answers text at t p i old last (Line size next) → Turns text t p i next rest → Turns text t p i at
-      (take size last ++ rest)
+  turn : {at size next : ℕ} {old last rest : List ℕ} → Answers text at t p i old last (Line size next) → Turns text t p i next rest
+      → Turns text t p i at (take size last ++ rest)
 
 -- a line that is no number, where the rest of the text is readable: there is no more line
 at-end : (text : List ℕ) (at : ℕ) {ns : List ℕ} → numbersFrom text at ≡ some ns → oneAt text at ≡ Not → ns ≡ []
@@ -74,8 +74,8 @@ left-all {text} k c d i at e =
     let a = accepted k c d i at e in
     rw (table-words k c d i at e, pool-words k c d i at e) (record { from = at; before = []; ns = a .ns; is = a .is; here = lines-of text (a .is) .rest })
 
-pub left-further : {text t p : List ℕ} {i at : ℕ} → Left text t p i at → {old last : List ℕ} {r : Said} → Answers text at t p i old last r → {size next : ℕ} →
-    r ≡ Line size next → Left text t p i next
+pub left-further : {text t p : List ℕ} {i at : ℕ} → Left text t p i at → {old last : List ℕ} {r : Said} → Answers text at t p i old last r → {size next : ℕ}
+    → r ≡ Line size next → Left text t p i next
 left-further {text} {t} {p} {i} {at} l a {next = next} e =
     let x = line-printed a e in
     let w = one-within text at (x .one) in

@@ -63,9 +63,8 @@ module _ (t p : List ℕ) (a : verdict t p ≡ Accepted) (i : ℕ) (l : i < node
   reads-row-is room cs = rw (a, lt-ltb i (nodes t) l)
 
   -- ---- writing
-  pub wrote-cut : {ns : List ℕ} {css : List (List ℕ)} → Cut g i ns css → {old last : List ℕ} {w : Row} → length (joined css) ≤ length old → WroteRow t p i ns
-      old last w
-      → (w ≡ Done (length ns) (length (joined css))) × (take (length (joined css)) last ≡ joined css)
+  pub wrote-cut : {ns : List ℕ} {css : List (List ℕ)} → Cut g i ns css → {old last : List ℕ} {w : Row} → length (joined css) ≤ length old
+      → WroteRow t p i ns old last w → (w ≡ Done (length ns) (length (joined css))) × (take (length (joined css)) last ≡ joined css)
   wrote-cut {ns} {css} cut {old} {last} {w} f h =
       let (e, same) = turns-cut t p a i l (length old) cut f in
       let is : w ≡ Done (length ns) (length (joined css)) = h .is ∙ writes-row-is (length old) ns ∙ e in
@@ -83,9 +82,8 @@ module _ (t p : List ℕ) (a : verdict t p ≡ Accepted) (i : ℕ) (l : i < node
       (css, cut, many, long, counted (joined css) old holds long (omega arith))
 
   -- ---- reading
-  pub got-cut : {ns : List ℕ} {css : List (List ℕ)} → Cut g i ns css → {old last : List ℕ} {r : Row} → length ns ≤ length old → GotRow t p i (joined css) old
-      last r
-      → (r ≡ Done (length ns) (length (joined css))) × (take (length ns) last ≡ ns)
+  pub got-cut : {ns : List ℕ} {css : List (List ℕ)} → Cut g i ns css → {old last : List ℕ} {r : Row} → length ns ≤ length old
+      → GotRow t p i (joined css) old last r → (r ≡ Done (length ns) (length (joined css))) × (take (length ns) last ≡ ns)
   got-cut {ns} {css} cut {old} {last} {r} f h =
       let e = gather-cut t p a i l (length old) cut f in
       let is : r ≡ Done (length ns) (length (joined css)) = h .is ∙ reads-row-is (length old) (joined css) ∙ ap (answered (length (joined css))) e in
@@ -115,6 +113,6 @@ module _ (t p : List ℕ) (a : verdict t p ≡ Accepted) (i : ℕ) (l : i < node
     unfolding next
     asks-end e = rw many (asks-cut t p a i l row [] 0 End refl (λ to. refl) cut (sym e ∙ sym (append-nil (joined css))))
 
-    pub asks-refused : (rest : List ℕ) {r : Refusal} → row ≡ joined css ++ rest → next g i rest ≡ Not-handed r 0 → asks (strideOf t p i row) (suc m) 0 ≡
-        handOut 0 ns css (Not-handed r 0)
+    pub asks-refused : (rest : List ℕ) {r : Refusal} → row ≡ joined css ++ rest → next g i rest ≡ Not-handed r 0
+        → asks (strideOf t p i row) (suc m) 0 ≡ handOut 0 ns css (Not-handed r 0)
     asks-refused rest {r} e f = rw many (asks-cut t p a i l row rest 0 (Not-handed r 0) f (λ to. refl) cut e)

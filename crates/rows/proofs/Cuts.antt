@@ -59,8 +59,8 @@ front-number : (w : Read) {n : ℕ} {rest : List ℕ} → frontOf w ≡ number n
 unfolding frontOf
 front-number (read m q ds) {n} {rest} e = by (ltb m (2 ^ 62)) refl e
   where
-    by : (b : Bool) → ltb m (2 ^ 62) ≡ b → pick b (number m ds) (refused NumberTooLarge) ≡ number n rest → (q' : ℕ) × (read m q ds ≡ read n q' rest) ×
-        (n < 2 ^ 62)
+    by : (b : Bool) → ltb m (2 ^ 62) ≡ b → pick b (number m ds) (refused NumberTooLarge) ≡ number n rest
+        → (q' : ℕ) × (read m q ds ≡ read n q' rest) × (n < 2 ^ 62)
     by true u v =
         let s : m ≡ n = cc in
         let s' : ds ≡ rest = cc in
@@ -83,8 +83,8 @@ after-stopped n (stopped x j) {r} {k} e =
     let s' : suc j ≡ k = cc in
     (j, ap (λ y. stopped y j) s, sym s')
 
-onward-all : (f : Front) (rest : List ℕ → Gathered) {ns : List ℕ} → Rows-read.onward f rest ≡ all ns → (n : ℕ) × (ds : List ℕ) × (ms : List ℕ) ×
-    (f ≡ number n ds) × (rest ds ≡ all ms) × (ns ≡ n ∷ ms)
+onward-all : (f : Front) (rest : List ℕ → Gathered) {ns : List ℕ} → Rows-read.onward f rest ≡ all ns
+    → (n : ℕ) × (ds : List ℕ) × (ms : List ℕ) × (f ≡ number n ds) × (rest ds ≡ all ms) × (ns ≡ n ∷ ms)
 onward-all (number n ds) rest e = let (ms, u, v) = after-all n (rest ds) e in (n, ds, ms, refl, u, v)
 onward-all (refused r) rest e = let z : _≡_ {A = ℕ} 0 1 = cc in absurd (omega arith)
 
@@ -176,8 +176,8 @@ module _ (t p : List ℕ) (a : verdict t p ≡ Accepted) (i : ℕ) (l : i < node
   counted : (n : ℕ) (xs ys : List ℕ) → Item n (length (xs ++ ys) - length ys) ≡ Item n (length xs)
   counted n xs ys = let s : length (xs ++ ys) - length ys ≡ length xs = omega (arith, length-append xs ys) in rw s
 
-  next-case : (row : List ℕ) (at : ℕ) {n : ℕ} {cs : List ℕ} (rest : List ℕ) → Asked (g i .size) n → Case g i n cs → drop at row ≡ cs ++ rest → nextOf t p i
-      row at ≡ Item n (length cs)
+  next-case : (row : List ℕ) (at : ℕ) {n : ℕ} {cs : List ℕ} (rest : List ℕ) → Asked (g i .size) n → Case g i n cs → drop at row ≡ cs ++ rest
+      → nextOf t p i row at ≡ Item n (length cs)
   next-case row at {n} {cs} rest q c e = next-is row at ∙ rw (e, next-some g i (cs ++ rest) (some-cells rest q c), front-case q c rest) (counted n cs rest)
 
   pub stride-case : {n : ℕ} {cs : List ℕ} → Asked (g i .size) n → Case g i n cs → (before rest : List ℕ)

@@ -62,9 +62,8 @@ module _ {t p : List ℕ} {i : ℕ} where
 -- ---- For every accepted table and every start in it
 module _ (t p : List ℕ) (a : verdict t p ≡ Accepted) (i : ℕ) (l : i < nodes t) where
   -- ---- Demand 2. "the case of a number and the number of a case .. each undoes the other, and nothing else is accepted"
-  case-written : {n : ℕ} {cs old last : List ℕ} {r : Written} → Asked (rulesOf t p i .size) n → Case (rulesOf t p) i n cs → length cs ≤ length old → Wrote t p
-      i n old last r
-      → (r ≡ Done (length cs)) × (take (length cs) last ≡ cs)
+  case-written : {n : ℕ} {cs old last : List ℕ} {r : Written} → Asked (rulesOf t p i .size) n → Case (rulesOf t p) i n cs → length cs ≤ length old
+      → Wrote t p i n old last r → (r ≡ Done (length cs)) × (take (length cs) last ≡ cs)
   case-written q c f h = Sides.case-written t p a i l q c f h
 
   written-then-read : {n k : ℕ} {old last : List ℕ} → Wrote t p i n old last (Done k) → reads t p i (take k last) ≡ Number n
@@ -100,8 +99,8 @@ module _ (t p : List ℕ) (a : verdict t p ≡ Accepted) (i : ℕ) (l : i < node
       → take c last ≡ take c' last' → ns ≡ ms
   one-list h k e = One-list.one-list t p a i l h k e
 
-  one-cut : {ns ms : List ℕ} {css dss : List (List ℕ)} → Cut (rulesOf t p) i ns css → Cut (rulesOf t p) i ms dss → joined css ≡ joined dss → (ns ≡ ms) ×
-      (css ≡ dss)
+  one-cut : {ns ms : List ℕ} {css dss : List (List ℕ)} → Cut (rulesOf t p) i ns css → Cut (rulesOf t p) i ms dss → joined css ≡ joined dss
+      → (ns ≡ ms) × (css ≡ dss)
   one-cut cut cut' e = One-list.one-cut t p a i l cut cut' e
 
   reader-done : {row old last : List ℕ} {m c : ℕ} → GotRow t p i row old last (Row-done m c)

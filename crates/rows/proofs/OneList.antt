@@ -43,22 +43,19 @@ module _ (t p : List ℕ) (a : verdict t p ≡ Accepted) (i : ℕ) (l : i < node
       → WroteRow t p i ns old last w → (w ≡ Done (length ns) (length (joined css))) × (take (length (joined css)) last ≡ joined css)
   row-written cut f h = wrote-cut t p a i l cut f h
 
-  pub written-then-read : {ns old last old' last' : List ℕ} {m c : ℕ} {r : Row} → WroteRow t p i ns old last (Done m c) → GotRow t p i (take c last) old'
-      last' r → length ns ≤ length old'
-      → (r ≡ Done m c) × (take m last' ≡ ns)
+  pub written-then-read : {ns old last old' last' : List ℕ} {m c : ℕ} {r : Row} → WroteRow t p i ns old last (Done m c)
+      → GotRow t p i (take c last) old' last' r → length ns ≤ length old' → (r ≡ Done m c) × (take m last' ≡ ns)
   written-then-read h k f =
       let (css, cut, many, used, same) = cut-wrote t p a i l h in
       rw (many, used) (got-cut t p a i l cut f (rw same at k))
 
-  pub row-there-and-back : {ns : List ℕ} {css : List (List ℕ)} → Cut g i ns css → {old last old' last' : List ℕ} {w r : Row} → length (joined css) ≤ length
-      old → length ns ≤ length old'
-      → WroteRow t p i ns old last w → GotRow t p i (take (length (joined css)) last) old' last' r → (r ≡ Done (length ns) (length (joined css))) ×
-      (take (length ns) last' ≡ ns)
+  pub row-there-and-back : {ns : List ℕ} {css : List (List ℕ)} → Cut g i ns css → {old last old' last' : List ℕ} {w r : Row}
+      → length (joined css) ≤ length old → length ns ≤ length old' → WroteRow t p i ns old last w
+      → GotRow t p i (take (length (joined css)) last) old' last' r → (r ≡ Done (length ns) (length (joined css))) × (take (length ns) last' ≡ ns)
   row-there-and-back cut f f' h k = got-cut t p a i l cut f' (rw (row-written cut f h .1) at k)
 
-  pub read-then-written : {cs old last old' last' : List ℕ} {m c : ℕ} {w : Row} → GotRow t p i cs old last (Done m c) → WroteRow t p i (take m last) old'
-      last' w → length cs ≤ length old'
-      → (w ≡ Done m c) × (take c last' ≡ cs)
+  pub read-then-written : {cs old last old' last' : List ℕ} {m c : ℕ} {w : Row} → GotRow t p i cs old last (Done m c)
+      → WroteRow t p i (take m last) old' last' w → length cs ≤ length old' → (w ≡ Done m c) × (take c last' ≡ cs)
   read-then-written h k f =
       let (css, cut, same, many, used) = cut-got t p a i l h in
       said-by _ (wrote-cut t p a i l cut (omega (arith, ap length same)) k) many (ap length same ∙ used) same

@@ -42,8 +42,8 @@ started-done : (b : Bool) (r : Row) {m c : ℕ} → pick b r (Refused NoSuchStar
 started-done true r e = e
 started-done false r e = let z : _≡_ {A = ℕ} 0 1 = cc in absurd (omega arith)
 
-answered-size : (used room : ℕ) (x : Gathered) → ((ns : List ℕ) → x ≡ all ns → length ns ≤ room) → {m c : ℕ} → answered used x ≡ Done m c →
-    (m ≡ length (gotten x)) × (m ≤ room)
+answered-size : (used room : ℕ) (x : Gathered) → ((ns : List ℕ) → x ≡ all ns → length ns ≤ room) → {m c : ℕ} → answered used x ≡ Done m c
+    → (m ≡ length (gotten x)) × (m ≤ room)
 answered-size used room (all ns) f {m} e = let s : length ns ≡ m = cc in (sym s, omega (arith, f ns refl))
 answered-size used room (stopped r k) f e = let z : _≡_ {A = ℕ} 0 1 = cc in absurd (omega arith)
 
@@ -107,8 +107,8 @@ module _ (t p : List ℕ) (i n k : ℕ) where
       by (refused r) u v = let z : _≡_ {A = ℕ} 0 1 = cc in absurd (omega arith)
 
   module _ (row : List ℕ) (at : ℕ) where
-    started-moves : verdict t p ≡ Accepted → (b : Bool) → ltb i (nodes t) ≡ b → pick b (next (rulesOf t p) i (drop at row)) (Not-handed NoSuchStart 0) ≡ Item
-        n k → Moves (drop at row)
+    started-moves : verdict t p ≡ Accepted → (b : Bool) → ltb i (nodes t) ≡ b
+        → pick b (next (rulesOf t p) i (drop at row)) (Not-handed NoSuchStart 0) ≡ Item n k → Moves (drop at row)
     started-moves a true u e = item-moves a (ltb-true i (nodes t) u) (drop at row) e
     started-moves a false u e = let z : _≡_ {A = ℕ} 0 1 = cc in absurd (omega arith)
 

@@ -20,9 +20,8 @@ use Rattle.cases.proofs.Outcomes.{written-cells}
 use Rattle.cases.proofs.BothSides as Both-sides
 
 module _ (t p : List ℕ) (a : verdict t p ≡ Accepted) (i : ℕ) (l : i < nodes t) where
-  pub case-written : {n : ℕ} {cs old last : List ℕ} {r : Written} → Asked (rulesOf t p i .size) n → Case (rulesOf t p) i n cs → length cs ≤ length old → Wrote
-      t p i n old last r
-      → (r ≡ Done (length cs)) × (take (length cs) last ≡ cs)
+  pub case-written : {n : ℕ} {cs old last : List ℕ} {r : Written} → Asked (rulesOf t p i .size) n → Case (rulesOf t p) i n cs → length cs ≤ length old
+      → Wrote t p i n old last r → (r ≡ Done (length cs)) × (take (length cs) last ≡ cs)
   case-written {n} {cs} {old} q c f h =
       let (e, same) = Both-sides.case-written t p a i l n (length old) cs q c f in
       (h .is ∙ e, written-cells h (length cs) (h .is ∙ e) ∙ same)

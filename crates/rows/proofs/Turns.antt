@@ -157,13 +157,13 @@ module _ (g : ℕ → Rule) (i : ℕ) where
       }
 
   -- ---- a row that is done
-  pub onward-done : (f : Fit) (rest : ℕ → Row) {m c : ℕ} → onward f rest ≡ Done m c → (k : ℕ) × (items : ℕ) × (used : ℕ) × (f ≡ Cells k) ×
-      (rest k ≡ Done items used) × (m ≡ 1 + items) × (c ≡ k + used)
+  pub onward-done : (f : Fit) (rest : ℕ → Row) {m c : ℕ} → onward f rest ≡ Done m c
+      → (k : ℕ) × (items : ℕ) × (used : ℕ) × (f ≡ Cells k) × (rest k ≡ Done items used) × (m ≡ 1 + items) × (c ≡ k + used)
   onward-done (Not r) rest e = let z : _≡_ {A = ℕ} 0 1 = cc in absurd (omega arith)
   onward-done (Cells k) rest {m} {c} e = by (rest k) refl e
     where
-      by : (x : Row) → rest k ≡ x → later 1 k x ≡ Done m c → (k' : ℕ) × (items : ℕ) × (used : ℕ) × (Cells k ≡ Cells k') × (rest k' ≡ Done items used) ×
-          (m ≡ 1 + items) × (c ≡ k' + used)
+      by : (x : Row) → rest k ≡ x → later 1 k x ≡ Done m c
+          → (k' : ℕ) × (items : ℕ) × (used : ℕ) × (Cells k ≡ Cells k') × (rest k' ≡ Done items used) × (m ≡ 1 + items) × (c ≡ k' + used)
       by (Done items used) u v = let s : 1 + items ≡ m = cc in let s' : k + used ≡ c = cc in (k, items, used, refl, u, sym s, sym s')
       by (Refused r n item) u v = let z : _≡_ {A = ℕ} 0 1 = cc in absurd (omega arith)
 

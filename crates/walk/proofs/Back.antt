@@ -52,8 +52,8 @@ module _ (z : ℕ → Size) (count : ℕ) (g : ℕ → Rule) where
       → run g d up i (length cs + q) (cs ++ rest) ≡ read n q rest
 
   module _ (d : ℕ) (ih : Backs d) where
-    tree-back : (t : Tree) (xs : List ℕ) → Under count xs → Names z xs t → (w : Path z t) (up : ℕ) (cs : List ℕ) → shown (walk g d) up (itemsOf z t w) ≡ map
-        cell cs → (q : ℕ) (rest : List ℕ)
+    tree-back : (t : Tree) (xs : List ℕ) → Under count xs → Names z xs t → (w : Path z t) (up : ℕ) (cs : List ℕ)
+        → shown (walk g d) up (itemsOf z t w) ≡ map cell cs → (q : ℕ) (rest : List ℕ)
         → follow (run g d) up t (length cs + q) (cs ++ rest) ≡ read (endOf z t w) q rest
     unfolding shown follow cellOf
     tree-back (done n) xs u o w up cs e q rest = rw (nil-cells cs e, zero-add q)

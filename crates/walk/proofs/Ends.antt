@@ -63,8 +63,8 @@ pub parts-of : (z : ℕ → Size) (count : ℕ) (r : Rule) → Lawful z count r 
 parts-of z count r l n h = let s = l .writes n h in subst (Each _) (s .passes) (path-parts z (r .steps true) (r .tree) (l .names) (s .path))
 
 -- ---- a visit meets something
-shown-some : (go : ℕ → ℕ → ℕ → List Event) (z : ℕ → Size) (t : Tree) → Meets t → (w : Path z t) (up : ℕ) → Each (λ p m. (u : ℕ) → 0 < length (go u p m))
-    (itemsOf z t w) → 0 < length (shown go up (itemsOf z t w))
+shown-some : (go : ℕ → ℕ → ℕ → List Event) (z : ℕ → Size) (t : Tree) → Meets t → (w : Path z t) (up : ℕ)
+    → Each (λ p m. (u : ℕ) → 0 < length (go u p m)) (itemsOf z t w) → 0 < length (shown go up (itemsOf z t w))
 unfolding shown
 shown-some go z (done n) s w up h = absurd s
 shown-some go z fails s w up h = absurd w
@@ -84,8 +84,8 @@ walk-some z count g good (suc d) i n l h up =
 
 -- ---- depth enough
 module _ (g : ℕ → Rule) where
-  shown-more : (go go' : ℕ → ℕ → ℕ → List Event) → ((up p m : ℕ) → Whole (go up p m) → Whole (go' up p m)) → (up : ℕ) (is : List Item) → Whole
-      (shown go up is) → Whole (shown go' up is)
+  shown-more : (go go' : ℕ → ℕ → ℕ → List Event) → ((up p m : ℕ) → Whole (go up p m) → Whole (go' up p m)) → (up : ℕ) (is : List Item)
+      → Whole (shown go up is) → Whole (shown go' up is)
   unfolding shown
   shown-more go go' f up [] w = tt
   shown-more go go' f up (own c ∷ is) w = shown-more go go' f 0 is w

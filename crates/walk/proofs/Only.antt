@@ -32,8 +32,8 @@ map-both (c ∷ ws) vs = ap (λ (es : List Event). cell c ∷ es) (map-both ws v
 spelt-none : (q : ℕ) (cs : List ℕ) → Spelt [] q cs q cs
 spelt-none q cs = record { ws = []; shows = refl; stands = refl; room = omega arith }
 
-spelt-cell : (c off : ℕ) {es : List Event} {q q' : ℕ} {cs rest : List ℕ} → leb off c ≡ true → Spelt es q cs q' rest → Spelt (cell (c - off + off) ∷ es)
-    (suc q) (c ∷ cs) q' rest
+spelt-cell : (c off : ℕ) {es : List Event} {q q' : ℕ} {cs rest : List ℕ} → leb off c ≡ true → Spelt es q cs q' rest
+    → Spelt (cell (c - off + off) ∷ es) (suc q) (c ∷ cs) q' rest
 spelt-cell c off {es} t s =
     let l = leb-true off c t in
     let e : c - off + off ≡ c = omega arith in
@@ -68,15 +68,14 @@ module _ (z : ℕ → Size) (count : ℕ) (g : ℕ → Rule) where
     Along off t q cs (read m q' rest) = (w : Path z t) × (endOf z t w ≡ m) × Spelt (shown (walk g d) off (itemsOf z t w)) q cs q' rest
     Along off t q cs (wrong r) = Unit {0}
 
-    after-cell : (off : ℕ) (f : ℕ → Tree) (c q : ℕ) (cs : List ℕ) (r : Read) → leb off c ≡ true → Along 0 (f (c - off)) q cs r → Along off (takes f) (suc q)
-        (c ∷ cs) r
+    after-cell : (off : ℕ) (f : ℕ → Tree) (c q : ℕ) (cs : List ℕ) (r : Read) → leb off c ≡ true → Along 0 (f (c - off)) q cs r
+        → Along off (takes f) (suc q) (c ∷ cs) r
     unfolding shown
     after-cell off f c q cs (read m q' rest) t h = ((c - off, h .0), h .1, spelt-cell c off t (h .2))
     after-cell off f c q cs (wrong r) t h = tt
 
-    after-part : (off p k : ℕ) (f : ℕ → Tree) (m : ℕ) {q q' : ℕ} {cs ds : List ℕ} (r : Read) → Below m (z p) → Spelt (walk g d (off + k) p m) q cs q' ds →
-        Along 0 (f m) q' ds r
-        → Along off (reads p k f) q cs r
+    after-part : (off p k : ℕ) (f : ℕ → Tree) (m : ℕ) {q q' : ℕ} {cs ds : List ℕ} (r : Read) → Below m (z p) → Spelt (walk g d (off + k) p m) q cs q' ds
+        → Along 0 (f m) q' ds r → Along off (reads p k f) q cs r
     unfolding shown
     after-part off p k f m (read n q'' rest) lt s h = ((m, lt, h .0), h .1, spelt-both s (h .2))
     after-part off p k f m (wrong r) lt s h = tt
@@ -96,8 +95,8 @@ module _ (z : ℕ → Size) (count : ℕ) (g : ℕ → Rule) where
     tree-only (reads p k f) xs u o off q cs =
         by (run g d (off + k) p q cs) (ih (off + k) p (under-mem count xs u p (o .0)) q cs) (λ m lt. tree-only (f m) xs u (o .1 m lt) 0)
       where
-        by : (r : Read) → Right (z p) (walk g d (off + k) p) q cs r → ((m : ℕ) → Below m (z p) → (q' : ℕ) (ds : List ℕ) → Along 0 (f m) q' ds
-            (follow (run g d) 0 (f m) q' ds))
+        by : (r : Read) → Right (z p) (walk g d (off + k) p) q cs r
+            → ((m : ℕ) → Below m (z p) → (q' : ℕ) (ds : List ℕ) → Along 0 (f m) q' ds (follow (run g d) 0 (f m) q' ds))
             → Along off (reads p k f) q cs (then r (λ m. follow (run g d) 0 (f m)))
         by (read m q' ds) h rest = after-part off p k f m (follow (run g d) 0 (f m) q' ds) (h .0) (h .1) (rest m (h .0) q' ds)
         by (wrong r) h rest = tt

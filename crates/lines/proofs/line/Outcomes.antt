@@ -37,8 +37,8 @@ module _ {text : List ℕ} {at : ℕ} {old last : List ℕ} {r : Line} (k : Read
   pub read-numbers : {count next : ℕ} → r ≡ Numbers count next → ReadNumbers text at old last count next
   read-numbers {count} {next} e = by (within (length old) (lineAt text at)) refl (sym (k .answers) ∙ e) (k .leaves)
     where
-      by : (x : Reading) → within (length old) (lineAt text at) ≡ x → answer x ≡ Numbers count next → last ≡ stored old x → ReadNumbers text at old last count
-          next
+      by : (x : Reading) → within (length old) (lineAt text at) ≡ x → answer x ≡ Numbers count next → last ≡ stored old x
+          → ReadNumbers text at old last count next
       by (numbers ns end) t f s =
           let size : length ns ≡ count = cc in
           let there : end ≡ next = cc in

@@ -18,9 +18,8 @@ module _ {text old last : List ℕ} {r : Put} (k : PutFront text old last r) whe
   pub put-bytes-known : {size : ℕ} → r ≡ Bytes size → (size ≡ length text) × (size ≤ length old) × (last ≡ text ++ drop size old)
   put-bytes-known {size} e = by (fits text old) refl (sym (k .answers) ∙ e) (k .leaves)
     where
-      by : (q : Bool) → leb (length text) (length old) ≡ q → cond q (Bytes (length text)) NoRoom ≡ Bytes size → last ≡ cond q (text ++ drop (length text) old)
-          old
-          → (size ≡ length text) × (size ≤ length old) × (last ≡ text ++ drop size old)
+      by : (q : Bool) → leb (length text) (length old) ≡ q → cond q (Bytes (length text)) NoRoom ≡ Bytes size
+          → last ≡ cond q (text ++ drop (length text) old) old → (size ≡ length text) × (size ≤ length old) × (last ≡ text ++ drop size old)
       by true t f s = let same : length text ≡ size = cc in (sym same, rw same at (leb-true (length text) (length old) t), rw same at s)
       by false t f s = let z : _≡_ {A = ℕ} 0 1 = cc in absurd (omega arith)
 

@@ -62,27 +62,25 @@ module _ {t p : List ℕ} {i n : ℕ} {old last : List ℕ} {w : Written} (k : W
   pub line-fits : (count : ℕ) → w ≡ Done count → length (take count last) ≤ room
   line-fits count e = simp length-take (omega (arith, written-fits k count e))
 
-  pub line-done : (count : ℕ) → w ≡ Done count → {page after : List ℕ} {r : ℕ} → OnPage (caseText n (take count last)) page after r → OnPage
-      (caseLine t p i n) page after r
+  pub line-done : (count : ℕ) → w ≡ Done count → {page after : List ℕ} {r : ℕ} → OnPage (caseText n (take count last)) page after r
+      → OnPage (caseLine t p i n) page after r
   unfolding caseLine
   line-done count e g = rw (told, e, ← written-cells k count e) g
 
-  pub line-refused : {r : Refusal} {node : ℕ} → w ≡ Refuses r node → n < 2 ^ 64 → {page after : List ℕ} {s : ℕ} → 55 ≤ length page → Filled
-      (caseRefusedText n r) page after s
-      → OnPage (caseLine t p i n) page after s
+  pub line-refused : {r : Refusal} {node : ℕ} → w ≡ Refuses r node → n < 2 ^ 64 → {page after : List ℕ} {s : ℕ} → 55 ≤ length page
+      → Filled (caseRefusedText n r) page after s → OnPage (caseLine t p i n) page after s
   unfolding caseLine
   line-refused {r} e h l f = rw (told, e) (whole f (omega (arith, case-refused-size n r h)))
 
 -- each cell is a word
-pub done-whole : (n : ℕ) (ns : List ℕ) → n < 2 ^ 64 → ((j : ℕ) → getD ns j 0 < 2 ^ 64) → length ns ≤ room → {page after : List ℕ} {r : ℕ} → 27 + 21 * 4096 ≤
-    length page
-    → Filled (caseText n ns) page after r → OnPage (caseText n ns) page after r
+pub done-whole : (n : ℕ) (ns : List ℕ) → n < 2 ^ 64 → ((j : ℕ) → getD ns j 0 < 2 ^ 64) → length ns ≤ room → {page after : List ℕ} {r : ℕ}
+    → 27 + 21 * 4096 ≤ length page → Filled (caseText n ns) page after r → OnPage (caseText n ns) page after r
 done-whole n ns h words few l f = whole f (omega (arith, case-size n ns h words few))
 
 -- ---- the number at a place
 module _ {text : List ℕ} {at : ℕ} {o : One} (e : o ≡ oneAt text at) {t p : List ℕ} {i : ℕ} {old : List ℕ} where
-  pub said-line : {n next : ℕ} → o ≡ Number n next → {last : List ℕ} {s : ℕ} → OnPage (caseLine t p i n) old last s → Answers text at t p i old last
-      (Line s next)
+  pub said-line : {n next : ℕ} → o ≡ Number n next → {last : List ℕ} {s : ℕ} → OnPage (caseLine t p i n) old last s
+      → Answers text at t p i old last (Line s next)
   said-line {n} {next} q g =
       record { answers = rw (← e, q) (ap (λ (s : ℕ). Line s next) (g .size)); room = rw (← e, q) (g .room); page = rw (← e, q) (g .holds) }
 

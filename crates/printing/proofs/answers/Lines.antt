@@ -47,8 +47,8 @@ lines-of text {t} {p} {i} {at} {ns} e = by-table (tableLine text) refl e
     by-start u v (Number i' at') w f = by-numbers u v w (numbersFrom text at') refl f
     by-start u v Not w f = absurd (unclear-not f)
 
-    by-pool : {t' : List ℕ} {a : ℕ} → tableLine text ≡ numbers t' a → (x : Reading) → poolLine text a ≡ x → withPool text t' x ≡ asks t p i at ns → Lines text
-        t p i at ns
+    by-pool : {t' : List ℕ} {a : ℕ} → tableLine text ≡ numbers t' a → (x : Reading) → poolLine text a ≡ x → withPool text t' x ≡ asks t p i at ns
+        → Lines text t p i at ns
     by-pool u (numbers p' b) v f = by-start u v (oneAt text b) refl f
     by-pool u unreadable v f = absurd (unclear-not f)
 

@@ -37,8 +37,8 @@ module _ {text : List ℕ} {at : ℕ} {old last : List ℕ} {r : Line} (k : Read
     unfolding oneAt
     one-some l z = let g = read-numbers k e in by (g .ns) (omega (arith, g .size, g .room)) (g .is) (g .leaves)
       where
-        by : (ns : List ℕ) → length ns ≡ 1 → lineAt text at ≡ numbers ns next → last ≡ ns ++ drop count old → Number (getD last 0 0) next ≡ alone
-            (lineAt text at)
+        by : (ns : List ℕ) → length ns ≡ 1 → lineAt text at ≡ numbers ns next → last ≡ ns ++ drop count old
+            → Number (getD last 0 0) next ≡ alone (lineAt text at)
         by [] s f h = absurd (omega arith)
         by (n ∷ []) s f h = rw (f, h)
         by (n ∷ m ∷ ns) s f h = absurd (omega arith)
@@ -69,8 +69,8 @@ module _ {text old last : List ℕ} {r : Line} (l : length text ≤ mostBytes) (
     pub table-some : (count ≡ 0 → ⊥) → ReadTable text old last (Numbers count next)
     table-some z = by (within (length old) (lineAt text 0)) refl (sym (k .answers) ∙ e) (k .leaves)
       where
-        by : (x : Reading) → within (length old) (lineAt text 0) ≡ x → answer x ≡ Numbers count next → last ≡ stored old x → ReadTable text old last
-            (Numbers count next)
+        by : (x : Reading) → within (length old) (lineAt text 0) ≡ x → answer x ≡ Numbers count next → last ≡ stored old x
+            → ReadTable text old last (Numbers count next)
         by (numbers [] end) t f s = let c : _≡_ {A = ℕ} 0 count = cc in absurd (z (sym c))
         by (numbers (n ∷ ns) end) t f s = record { answers = rw (table-is, t) (sym f); leaves = rw (table-is, t) s }
         by unreadable t f s = let y : _≡_ {A = ℕ} 0 1 = cc in absurd (omega arith)

@@ -39,8 +39,8 @@ module _ (text : List ℕ) where
   enough (suc f) zero at h l = absurd (omega arith)
   enough (suc f) (suc g) at h l = by (leb (length text) at) refl (oneAt text at) refl (λ m a b. enough f g m a b)
     where
-      by : (q : Bool) → leb (length text) at ≡ q → (o : One) → oneAt text at ≡ o → ((m : ℕ) → length text - m < f → length text - m < g → numbersBy f text m ≡
-          numbersBy g text m)
+      by : (q : Bool) → leb (length text) at ≡ q → (o : One) → oneAt text at ≡ o
+          → ((m : ℕ) → length text - m < f → length text - m < g → numbersBy f text m ≡ numbersBy g text m)
           → cond q (some []) (further o (numbersBy f text)) ≡ cond q (some []) (further o (numbersBy g text))
       by true e o p r = refl
       by false e Not p r = refl

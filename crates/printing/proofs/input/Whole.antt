@@ -73,15 +73,15 @@ module _ {text tOld tLast : List ℕ} {a : Line} (k : ReadTable text tOld tLast 
         pub read-all : q ≡ true → ReadInput text tOld tLast pOld pLast (Cases c d i from)
         read-all e = record { answers = by (numbersFrom text from) (sym eq ∙ e) start-ends; table = k .leaves; pool = pool-leaves }
           where
-            by : (x : Option (List ℕ)) → readable x ≡ true → asked (withNumbers (t .ns) (p .ns) i from x) ≡ asked (inputOf text) → Cases c d i from ≡ asked
-                (inputOf text)
+            by : (x : Option (List ℕ)) → readable x ≡ true → asked (withNumbers (t .ns) (p .ns) i from x) ≡ asked (inputOf text)
+                → Cases c d i from ≡ asked (inputOf text)
             by none f g = absurd (false≢true f)
             by (some ns) f g = rw (t .size, p .size) at g
 
         pub read-no-numbers : q ≡ false → ReadInput text tOld tLast pOld pLast Unclear
         read-no-numbers e = record { answers = by (numbersFrom text from) (sym eq ∙ e) start-ends; table = k .leaves; pool = pool-leaves }
           where
-            by : (x : Option (List ℕ)) → readable x ≡ false → asked (withNumbers (t .ns) (p .ns) i from x) ≡ asked (inputOf text) → Unclear ≡ asked
-                (inputOf text)
+            by : (x : Option (List ℕ)) → readable x ≡ false → asked (withNumbers (t .ns) (p .ns) i from x) ≡ asked (inputOf text)
+                → Unclear ≡ asked (inputOf text)
             by none f g = g
             by (some ns) f g = absurd (true≢false f)

@@ -46,8 +46,8 @@ module _ {t p plan : List ℕ} (h : Planning t p plan) (i : ℕ) (cs old : List 
       pub gathers-of : Gathers (gather (ruleIn plan p) i (length old) cs)
       gathers-of = answered-done (length cs) (gather (ruleIn plan p) i (length old) cs) (sym e ∙ q)
 
-      pub got-kept : (first : List ℕ) {kept : List ℕ} → kept ≡ over (gotten (gather (ruleIn plan p) i (length old) cs)) first → Kept
-          (gotten (gather (ruleIn plan p) i (length old) cs)) kept m (length old)
+      pub got-kept : (first : List ℕ) {kept : List ℕ} → kept ≡ over (gotten (gather (ruleIn plan p) i (length old) cs)) first
+          → Kept (gotten (gather (ruleIn plan p) i (length old) cs)) kept m (length old)
       got-kept first g =
           let a = gathers-of in
           let f : Done (length (a .ns)) (length cs) ≡ Done m c = ap (answered (length cs)) (sym (a .is)) ∙ sym e ∙ q in

@@ -153,8 +153,8 @@ module _ {plan p : List ℕ} {a b : ℕ} (d : Choosing plan p a b) where
         rw (seconds-second (sizeIn plan) seconds (d .alike) many k c, run-at p b (firsts plan a) (d .words .inside) k o)
         (n .walks .some (getD p (b + k) 0) (n .node)))
 
-pub dep-rule : {plan p : List ℕ} {i : ℕ} → Reading plan p i → kindWord plan i ≡ 6 → ruleIn plan p i ≡ depKind .rule (aWord plan i) (bWord plan i) p
-    (sizeIn plan)
+pub dep-rule : {plan p : List ℕ} {i : ℕ} → Reading plan p i → kindWord plan i ≡ 6
+    → ruleIn plan p i ≡ depKind .rule (aWord plan i) (bWord plan i) p (sizeIn plan)
 dep-rule r k = seconds-rule r k ∙ sym (dep-by (choosing r k))
 
 -- ---- a visit
@@ -162,8 +162,8 @@ module _ {plan p : List ℕ} {i n : ℕ} (v : Visits plan p i n) (k : kindWord p
   abbrev chosen : List ℕ
   chosen = take (firsts plan (aWord plan i)) (drop (bWord plan i) p)
 
-  pub dep-items : {is : List Item} → depRule (total (sizeIn plan) chosen) (secondsOf (sizeIn plan) chosen) (aWord plan i) chosen .items n ≡ is → ruleIn plan p
-      i .items n ≡ is
+  pub dep-items : {is : List Item} → depRule (total (sizeIn plan) chosen) (secondsOf (sizeIn plan) chosen) (aWord plan i) chosen .items n ≡ is
+      → ruleIn plan p i .items n ≡ is
   dep-items e = items-of (seconds-rule (visited v) k) ∙ e
 
   -- the first part's number is below its size

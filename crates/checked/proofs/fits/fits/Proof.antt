@@ -23,8 +23,8 @@ fits-spec =
     (λ c. omega (arith, c .before .before .room-for .ensures))
     (λ c. lent-long (c .before .before .before .before .before .before .before .before .before .before .args .out .now)
     (c .before .before .before .room-for .ensures))
-    (λ c κs. let h = c .before .before .before .before .before .before .before .before .before .before .pre in let a =
-    c .before .before .before .before .before .asked .ensures in let y = c .before .before .before .before .if1 .taken in (
+    (λ c κs. let h = c .before .before .before .before .before .before .before .before .before .before .pre in
+    let a = c .before .before .before .before .before .asked .ensures in let y = c .before .before .before .before .if1 .taken in (
       (visits-of h _ 0 a y, record { is = inl refl }),
       (
         omega (arith, may h _ 0 a y .small),

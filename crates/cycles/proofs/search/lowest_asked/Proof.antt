@@ -31,7 +31,7 @@ lowest-asked-spec =
     (c .before .before .before .before .before .loop-test .taken) (c .before .before .if1 .taken) (c .before .comes-back .ensures) (c .if2 .taken))
     (λ c. omega arith)
     (λ c. omega arith)
-    (λ c. let r = c .before .before .before .before .before .before .before .before .pre in let i = c .before .before .before .before .loop .inv in let l =
-    c .before .before .before .loop-test .taken in let a = c .before .asked .ensures in
+    (λ c. let r = c .before .before .before .before .before .before .before .before .pre in let i = c .before .before .before .before .loop .inv in
+    let l = c .before .before .before .loop-test .taken in let a = c .before .asked .ensures in
     ⊎-elim (λ w. passed-cycle _ r _ a i l (w .1 .ensures) (w .2 .left)) (λ w. passed-kind _ r _ a i l (w .left)) (c .if1 .came))
     (λ c. search lowest-none))

@@ -164,8 +164,8 @@ pub +both+lay+tagged-spec : {M : Type 1} → statement M
           (visited (at-pre .pre .1 .0 .0)) (c .match .keys4),
     ))
     (λ c. let at-if1 = c .before .before .before .before .before in omega (arith, at-if1 .if1 .left))
-    (λ c κs. let at-if1 = c .before .before .before .before .before .before in let at-pre = at-if1 .before .before in let v = at-pre .pre .1 .0 .0 in let k =
-    c .before .match .keys4 in lay-shift _ (at-pre .pre .0) (at-if1 .if1 .left) (at-pre .pre .1 .1)
+    (λ c κs. let at-if1 = c .before .before .before .before .before .before in let at-pre = at-if1 .before .before in let v = at-pre .pre .1 .0 .0 in
+    let k = c .before .match .keys4 in lay-shift _ (at-pre .pre .0) (at-if1 .if1 .left) (at-pre .pre .1 .1)
     (next-by v (shift-items v k) .0) (shift-raised (visited v) k _) (shift-small (visited v) k))
     (λ c κs. let at-pre = c .before .before .before .before .before .before .before in let v = visited (at-pre .pre .1 .0 .0) in parts-in v
     (or-lower v (c .match .keys5)))
@@ -205,8 +205,8 @@ pub +both+lay+tagged-spec : {M : Type 1} → statement M
     at-pre = at-if1 .before .before in laid-by (walk-cell _ _ _ _ (at-if1 .if1 .left) (nats-items (at-pre .pre .1 .0 .0) (at-match .match .keys2)) refl)
     (at-put2 .put2 .ensures))
     (λ c. let at-put3 = c .before .before in at-put3 .put3 .ensures .long)
-    (λ c. let at-put3 = c .before .before in let at-step = at-put3 .before .before in let at-match = at-step .before .before in let at-if1 =
-    at-match .before .before .before .before .before in let at-pre = at-if1 .before .before in laid-by
+    (λ c. let at-put3 = c .before .before in let at-step = at-put3 .before .before in let at-match = at-step .before .before in
+    let at-if1 = at-match .before .before .before .before .before in let at-pre = at-if1 .before .before in laid-by
     (walk-word _ _ _ _ (at-if1 .if1 .left) (pool-items (at-pre .pre .1 .0 .0) (at-match .match .keys3) (at-step .step .ensures))
     (raised-none (at-pre .pre .1 .0 .1) (at-match .match .keys3) refl)) (at-put3 .put3 .ensures))
     (λ c. let at-lay = c .before .before in at-lay .lay .ensures .long)
@@ -214,23 +214,23 @@ pub +both+lay+tagged-spec : {M : Type 1} → statement M
     at-pre = at-if1 .before .before in laid-by (walk-pass _ _ _ _ (at-if1 .if1 .left) (shift-items (at-pre .pre .1 .0 .0) (at-match .match .keys4)) refl)
     (at-lay .lay .ensures))
     (λ c. let at-tagged = c .before .before in at-tagged .tagged .ensures .long)
-    (λ c. let at-tagged = c .before .before in let at-step2 = at-tagged .before .before in let at-match = at-step2 .before in let at-if1 =
-    at-match .before .before .before .before .before in let at-pre = at-if1 .before .before in laid-by
+    (λ c. let at-tagged = c .before .before in let at-step2 = at-tagged .before .before in let at-match = at-step2 .before in
+    let at-if1 = at-match .before .before .before .before .before in let at-pre = at-if1 .before .before in laid-by
     (walk-tag _ _ _ _ (at-if1 .if1 .left) (items-of (or-rule (visited (at-pre .pre .1 .0 .0)) (at-match .match .keys5)) ∙ at-step2 .step2 .ensures)
     (raised-none (at-pre .pre .1 .0 .1) (at-match .match .keys5) refl)) (at-tagged .tagged .ensures))
     (λ c. let at-both = c .before .before in at-both .both .ensures .long)
-    (λ c. let at-both = c .before .before in let at-step3 = at-both .before .before in let at-match = at-step3 .before in let at-if1 =
-    at-match .before .before .before .before .before in let at-pre = at-if1 .before .before in laid-by
+    (λ c. let at-both = c .before .before in let at-step3 = at-both .before .before in let at-match = at-step3 .before in
+    let at-if1 = at-match .before .before .before .before .before in let at-pre = at-if1 .before .before in laid-by
     (walk-two _ _ _ _ (at-if1 .if1 .left) (items-of (cons-rule (visited (at-pre .pre .1 .0 .0)) (at-match .match .keys6)) ∙ at-step3 .step3 .ensures)
     (raised-none (at-pre .pre .1 .0 .1) (at-match .match .keys6) refl)) (at-both .both .ensures))
     (λ c. let at-both2 = c .before .before in at-both2 .both2 .ensures .long)
-    (λ c. let at-both2 = c .before .before in let at-step4 = at-both2 .before .before in let at-match = at-step4 .before .before in let at-if1 =
-    at-match .before .before .before .before .before in let at-pre = at-if1 .before .before in laid-by
+    (λ c. let at-both2 = c .before .before in let at-step4 = at-both2 .before .before in let at-match = at-step4 .before .before in
+    let at-if1 = at-match .before .before .before .before .before in let at-pre = at-if1 .before .before in laid-by
     (walk-two _ _ _ _ (at-if1 .if1 .left) (dep-items (at-pre .pre .1 .0 .0) (at-match .match .keys7) (at-step4 .step4 .ensures _))
     (raised-none (at-pre .pre .1 .0 .1) (at-match .match .keys7) refl)) (at-both2 .both2 .ensures))
     (λ c. let at-lay2 = c .before .before in at-lay2 .lay2 .ensures .long)
-    (λ c. let at-lay2 = c .before .before in let at-split = at-lay2 .before .before in let at-match = at-split .before in let at-if1 =
-    at-match .before .before .before .before .before in let at-pre = at-if1 .before .before in laid-by
+    (λ c. let at-lay2 = c .before .before in let at-split = at-lay2 .before .before in let at-match = at-split .before in
+    let at-if1 = at-match .before .before .before .before .before in let at-pre = at-if1 .before .before in laid-by
     (walk-same _ _ _ _ (at-if1 .if1 .left) (except-items (at-pre .pre .1 .0 .0) (at-match .match .keys8) (at-split .split .ensures))
     (raised-none (at-pre .pre .1 .0 .1) (at-match .match .keys8) refl)) (at-lay2 .lay2 .ensures))
     (λ c. let at-lay3 = c .before .before in at-lay3 .lay3 .ensures .long)

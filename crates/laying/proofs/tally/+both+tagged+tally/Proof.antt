@@ -137,8 +137,8 @@ pub +both+tagged+tally-spec : {M : Type 1} → statement M
       dep-low (at-pre .pre .1 .0) (c .before .match .keys7),
     ))
     (λ c. let at-if1 = c .before .before .before .before .before .before .before in omega (arith, at-if1 .if1 .left))
-    (λ c κs. let at-match = c .before .before in let at-if1 = at-match .before .before .before .before .before in let at-pre = at-if1 .before in let n =
-    next-by (at-pre .pre .1 .0) (dep-items (at-pre .pre .1 .0) (at-match .match .keys7) (c .step3 .ensures _)) in
+    (λ c κs. let at-match = c .before .before in let at-if1 = at-match .before .before .before .before .before in let at-pre = at-if1 .before in
+    let n = next-by (at-pre .pre .1 .0) (dep-items (at-pre .pre .1 .0) (at-match .match .keys7) (c .step3 .ensures _)) in
     tally-both (at-pre .pre .0) (at-if1 .if1 .left) (at-pre .pre .1 .1) (n .0) (n .1 .0))
     (λ c κs. let at-pre = c .before .before .before .before .before .before in omega (arith, at-pre .pre .1 .1 .0))
     (λ c. let at-if1 = c .before .before .before .before .before .before in omega (arith, at-if1 .if1 .left))

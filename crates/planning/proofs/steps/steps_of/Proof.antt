@@ -39,8 +39,8 @@ steps-of-spec =
     (λ c. names-as (shift-steps _ _ _ _ _ (c .before .match .keys4)) (c .one .ensures _))
     (λ c. names-as (or-steps _ _ _ _ _ (c .before .match .keys5)) (c .steps .ensures _))
     (λ c. names-as (cons-steps _ _ _ _ _ (c .before .match .keys6)) (c .two .ensures _))
-    (λ c. let r = c .before .before .before .before .before .before .before .before .pre .0 in let h =
-    c .before .before .before .before .before .before .before .before .pre .1 in let e = c .before .match .keys7 in names-as (dep-steps r h e _)
+    (λ c. let r = c .before .before .before .before .before .before .before .before .pre .0 in
+    let h = c .before .before .before .before .before .before .before .before .pre .1 in let e = c .before .match .keys7 in names-as (dep-steps r h e _)
     (c .steps2 .ensures _ (dep-run r h e) (dep-count r h e)))
     (λ c. names-as (except-steps _ _ _ _ _ (c .before .match .keys8)) (c .one2 .ensures _))
     (λ c. names-as (fix-steps _ _ _ _ _ (c .before .match .keys9)) (c .one3 .ensures _))

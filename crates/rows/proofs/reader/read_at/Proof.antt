@@ -188,8 +188,8 @@ module _ {M : Type 1} (𝓤 : URA M) (H : Heap 𝓤) (A : Atoms 𝓤) (W : Given
   abbrev Said : Next → Reader → Type 0
   Said n z = (n ≡ nextOf (now t) (now p) st (now s) a) × (z .row ≡ s) × (z .at ≡ afterOf a (nextOf (now t) (now p) st (now s) a))
 
-  exits : (n : Next) (u : Val) (b : ℕ) → Is N.the-row n (u ∷ []) → b < 2 ^ 64 → _≡_ {A = Stride} (record { answer = n; at = b })
-      (strideOf (now t) (now p) st (now s) a)
+  exits : (n : Next) (u : Val) (b : ℕ) → Is N.the-row n (u ∷ []) → b < 2 ^ 64
+      → _≡_ {A = Stride} (record { answer = n; at = b }) (strideOf (now t) (now p) st (now s) a)
       → ent 𝓤 (⋆ 𝓤 H A (‵ (flft κ q) ∷ ‵ (flft κp qp) ∷ ‵ (flft κt qt) ∷ ‵ All ∷ [])) (Post (vstruct (vcons u (vcons (vint w64 b) vnil))))
   exits n u b is fits e =
       qed W (‵ (flft κ q) ∷ ‵ (flft κp qp) ∷ ‵ (flft κt qt) ∷ ‵ All ∷ []) ∵
@@ -268,8 +268,8 @@ module _ {M : Type 1} (𝓤 : URA M) (H : Heap 𝓤) (A : Atoms 𝓤) (W : Given
         by ! (exits n u (z .0 .at) is (was .1 .1 .1 .0 .1) (stride-is n _ (z .0 .at) _ (e .0) (e .2)))))))))))))))))))))
 
 module _ {M : Type 1} (𝓤 : URA M) (H : Heap 𝓤) (A : Atoms 𝓤) (W : Given 𝓤 H A) (mem : Memory → SProp 𝓤) (run : Routine → Fun 𝓤) where
-  read-walks : (C : Calls 𝓤 H) (Λ : Loops 𝓤 H) → FmC 𝓤 H (W .laws) C → Triple 𝓤 (C #rows·step) (StepC 𝓤 H A mem run) → Walks 𝓤 H A read.ended stayed
-      (WpFn 𝓤 H C Λ code.function) (read.clauses 𝓤 H A mem run)
+  read-walks : (C : Calls 𝓤 H) (Λ : Loops 𝓤 H) → FmC 𝓤 H (W .laws) C → Triple 𝓤 (C #rows·step) (StepC 𝓤 H A mem run)
+      → Walks 𝓤 H A read.ended stayed (WpFn 𝓤 H C Λ code.function) (read.clauses 𝓤 H A mem run)
   read-walks C Λ fm known = walked 𝓤 H A read.ended stayed (read.clauses 𝓤 H A mem run) (WpFn 𝓤 H C Λ code.function)
       (λ κs. (slice-vals, (slice-vals, (uint-vals w64, (slice-vals, (uint-vals w64, tt))))))
       (λ κs. (
@@ -285,9 +285,8 @@ module _ {M : Type 1} (𝓤 : URA M) (H : Heap 𝓤) (A : Atoms 𝓤) (W : Given
       (λ κs qs bounds a g are. via 𝓤 _ (fst∗ 𝓤 _ (emp 𝓤)) (walk 𝓤 H A W mem run (κs .0) (κs .1 .0) (κs .1 .1 .0) (qs .0) (qs .1 .0) (qs .1 .1 .0) (a .0)
       (a .1 .0) (a .1 .1 .0) (are .1 .1 .0 .1) (a .1 .1 .1 .0) (a .1 .1 .1 .1 .0) (are .1 .1 .1 .1 .0 .1) C Λ fm known (are .0) (are .1 .0) (are .1 .1 .1 .0)))
 
-read-meets : {M : Type 1} (𝓤 : URA M) (H : Heap 𝓤) (A : Atoms 𝓤) (W : Given 𝓤 H A) (mem : Memory → SProp 𝓤) (run : Routine → Fun 𝓤) (𝓣 : Tables 𝓤 H) → Triple
-    𝓤 (𝓣 .C #rows·step) (StepC 𝓤 H A mem run)
-    → Meets 𝓤 H A read.signature (WpFn 𝓤 H (𝓣 .C) (𝓣 .Λ) code.function) (read.spec 𝓤 H A mem run)
+read-meets : {M : Type 1} (𝓤 : URA M) (H : Heap 𝓤) (A : Atoms 𝓤) (W : Given 𝓤 H A) (mem : Memory → SProp 𝓤) (run : Routine → Fun 𝓤) (𝓣 : Tables 𝓤 H)
+    → Triple 𝓤 (𝓣 .C #rows·step) (StepC 𝓤 H A mem run) → Meets 𝓤 H A read.signature (WpFn 𝓤 H (𝓣 .C) (𝓣 .Λ) code.function) (read.spec 𝓤 H A mem run)
 read-meets 𝓤 H A W mem run 𝓣 known = walk-meets 𝓤 H A read.ended stayed W (
   goes-none-slice 𝓤 H A W 3 (0 ∷ []) tt (plain (λ _. u64)) yes,
   (

@@ -154,8 +154,8 @@ pub +both+chosen+tagged+take+without-spec : {M : Type 1} → statement M
     (c .before .take2 .ensures) (c .if2 .taken))
     (λ c κs. let at-if1 = c .before .before .before .before .before .before in let at-take = at-if1 .before in let at-pre = at-take .before .before in
     (at-pre .pre .1 .0 .words, dep-first (at-pre .pre .1 .0) _ _ (at-take .take .ensures) (omega (arith, at-if1 .if1 .left)) .1))
-    (λ c. let at-if2 = c .before .before in let at-take2 = at-if2 .before in let at-if1 = at-take2 .before .before .before .before in let at-take =
-    at-if1 .before in let at-pre = at-take .before .before in dep-number (at-pre .pre .1 .0) _ _ (at-take .take .ensures)
+    (λ c. let at-if2 = c .before .before in let at-take2 = at-if2 .before in let at-if1 = at-take2 .before .before .before .before in
+    let at-take = at-if1 .before in let at-pre = at-take .before .before in dep-number (at-pre .pre .1 .0) _ _ (at-take .take .ensures)
     (dep-first (at-pre .pre .1 .0) _ _ (at-take .take .ensures) (omega (arith, at-if1 .if1 .left))) (at-take2 .take2 .ensures) (at-if2 .if2 .left)
     (c .join .ensures)))
     (λ t. tagged-lts.spec (counted.Asked, counted.Learnt, take-below t, take.Post, or-join.Asked, or-join.Learnt) (tagged-at t) tagged.Post

@@ -263,8 +263,8 @@ module _ {M : Type 1} (𝓤 : URA M) (H : Heap 𝓤) (A : Atoms 𝓤) (W : Given
         keep ! (4 ∷ 5 ∷ 6 ∷ 3 ∷ 2 ∷ 0 ∷ 7 ∷ []) $ by ! (exits r e is-n)))))))))))))))
 
 module _ {M : Type 1} (𝓤 : URA M) (H : Heap 𝓤) (A : Atoms 𝓤) (W : Given 𝓤 H A) (mem : Memory → SProp 𝓤) (run : Routine → Fun 𝓤) where
-  step-walks : (C : Calls 𝓤 H) (Λ : Loops 𝓤 H) → FmC 𝓤 H (W .laws) C → Triple 𝓤 (C #rows·stride-at) (StrideAt 𝓤 H A mem run) → Walks 𝓤 H A step.ended stayed
-      (WpFn 𝓤 H C Λ code.function) (step.clauses 𝓤 H A mem run)
+  step-walks : (C : Calls 𝓤 H) (Λ : Loops 𝓤 H) → FmC 𝓤 H (W .laws) C → Triple 𝓤 (C #rows·stride-at) (StrideAt 𝓤 H A mem run)
+      → Walks 𝓤 H A step.ended stayed (WpFn 𝓤 H C Λ code.function) (step.clauses 𝓤 H A mem run)
   step-walks C Λ fm known = walked 𝓤 H A step.ended stayed (step.clauses 𝓤 H A mem run) (WpFn 𝓤 H C Λ code.function)
       (λ κs. (ptr-vals, (slice-vals, (slice-vals, (uint-vals w64, tt)))))
       (λ κs. (
@@ -279,9 +279,8 @@ module _ {M : Type 1} (𝓤 : URA M) (H : Heap 𝓤) (A : Atoms 𝓤) (W : Given
       (a .0 .ptr .0) (a .0 .ptr .1) (a .0 .name) (a .0 .now) (a .1 .0) (a .1 .1 .0) (a .1 .1 .1 .0) (are .1 .1 .1 .0 .1) C Λ fm known (are .1 .0)
       (are .1 .1 .0)))
 
-step-meets : {M : Type 1} (𝓤 : URA M) (H : Heap 𝓤) (A : Atoms 𝓤) (W : Given 𝓤 H A) (mem : Memory → SProp 𝓤) (run : Routine → Fun 𝓤) (𝓣 : Tables 𝓤 H) → Triple
-    𝓤 (𝓣 .C #rows·stride-at) (StrideAt 𝓤 H A mem run)
-    → Meets 𝓤 H A step.signature (WpFn 𝓤 H (𝓣 .C) (𝓣 .Λ) code.function) (step.spec 𝓤 H A mem run)
+step-meets : {M : Type 1} (𝓤 : URA M) (H : Heap 𝓤) (A : Atoms 𝓤) (W : Given 𝓤 H A) (mem : Memory → SProp 𝓤) (run : Routine → Fun 𝓤) (𝓣 : Tables 𝓤 H)
+    → Triple 𝓤 (𝓣 .C #rows·stride-at) (StrideAt 𝓤 H A mem run) → Meets 𝓤 H A step.signature (WpFn 𝓤 H (𝓣 .C) (𝓣 .Λ) code.function) (step.spec 𝓤 H A mem run)
 step-meets 𝓤 H A W mem run 𝓣 known = walk-meets 𝓤 H A step.ended stayed W (
   goes-ref 𝓤 H A W 4 0 tt behind,
   (
