@@ -1,7 +1,7 @@
 -- The nodes that read one cell: below, nats and pool. They read no part, so what parts read (`go`) does not matter.
 --   leaf-..      any of them: its cell is a number, is none, or is not there
 --   counted-..   below
---   any-cell     nats
+--   any-..       nats
 --   listed-..    pool
 -- Assumes nothing.
 use mathlib.Core.Path.{_≡_, refl, sym, subst, _∙_}
