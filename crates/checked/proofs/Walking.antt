@@ -14,7 +14,8 @@ use Rattle.grammar.specs.Table.{kindOf, aOf, bOf, nodes}
 use Rattle.grammar.specs.Kind.{Node, before}
 use Rattle.grammar.specs.Law.{Holds, Good}
 use Rattle.grammar.specs.Rule.{Rule}
-use Rattle.grammar.specs.Nodes.{kindIn, nodeAt, ruleAt}
+use Rattle.grammar.specs.kinds.{kindIn}
+use Rattle.grammar.specs.Nodes.{nodeAt, ruleAt}
 use Rattle.grammar.specs.Sizes.{sizeAt, sizes, rulesOf}
 use Rattle.grammar.specs.Plan.{sizeIn, kindWord, aWord, bWord, nodeIn, ruleIn}
 use Rattle.grammar.proofs.KindLaw.{fit-some}

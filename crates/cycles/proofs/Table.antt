@@ -26,7 +26,8 @@ use Rattle.graph.proofs.Ways.{via-decide}
 use Rattle.graph.proofs.Lowest.{lowest-of, lowest-one, nowhere}
 use Rattle.grammar.specs.Table.{kindOf, aOf, bOf, nodes}
 use Rattle.grammar.specs.Kind.{before}
-use Rattle.grammar.specs.Nodes.{kindIn, ruleAt}
+use Rattle.grammar.specs.kinds.{kindIn}
+use Rattle.grammar.specs.Nodes.{ruleAt}
 use Rattle.grammar.specs.Checked.{Checked}
 use Rattle.grammar.specs.Steps.{stepsOf, Step, Leads, Unguarded, ExceptOnCycle}
 use Rattle.grammar.specs.Plan.{sizeIn, Ready}

@@ -11,7 +11,7 @@ ghost use Rattle.graph.specs.Paths.{Decides};
 ghost use Rattle.graph.specs.Lowest.{Lowest};
 ghost use Rattle.graph.specs.Marks.{marked};
 ghost use Rattle.grammar.specs.Table.{nodes};
-ghost use Rattle.grammar.specs.Nodes.{kindIn};
+ghost use Rattle.grammar.specs.kinds.{kindIn};
 ghost use Rattle.grammar.specs.Steps.{stepsOf, Leads};
 ghost use Rattle.grammar.specs.Plan.{sizeIn, Ready};
 ghost use Rattle.cycles.specs.Asked.{OnCycle};

@@ -23,13 +23,14 @@ use Rattle.grammar.specs.Table.{kindOf, aOf, bOf, nodes}
 use Rattle.grammar.specs.Checks.{Check, asks, Row, fault, sized, row}
 use Rattle.grammar.specs.Law.{Fit, Holds, Under, Good}
 use Rattle.grammar.specs.Kind.{Kind, before}
-use Rattle.grammar.specs.Nodes.{kinds, unknown, kindIn, nodeAt, ruleAt, rowAt}
+use Rattle.grammar.specs.kinds.{kinds, unknown, kindIn}
+use Rattle.grammar.specs.Nodes.{nodeAt, ruleAt, rowAt}
 use Rattle.grammar.specs.Checked.{Checked}
 use Rattle.grammar.specs.Sizes.{Scan, passed, faulty, sizeAt, noted, onward, scan}
 use Rattle.grammar.specs.declared.refusal.Refusal.{Refusal}
 use Rattle.grammar.specs.kinds.Fix.{passRule}
 use Rattle.grammar.proofs.KindLaw.{KindLaw, Lower, each-kind, each-but}
-use Rattle.grammar.proofs.Kept.{laws, unknown-law, lowers, unknown-lower}
+use Rattle.grammar.proofs.laws.{laws, unknown-law, lowers, unknown-lower}
 use Rattle.grammar.proofs.Sizes.{at-end, at-other}
 
 -- ---- a row
@@ -70,7 +71,7 @@ module _ (t p : List ℕ) where
 
     pub row-fit : ((i : ℕ) → i < k → Fit (z i)) → Fit s
     unfolding ruleAt
-    row-fit f = subst Fit (sym (row-at .1)) (law k .fit (nodeAt t p k) z f (row-at .0))
+    row-fit f = rw (row-at .1, law k .sees (nodeAt t p k) z (row-at .0)) (law k .fit (nodeAt t p k) z f (row-at .0))
 
   onward-of : (n : ℕ) (q : Scan) {ys : List Size} → onward t p n q ≡ passed ys
       → (zs : List Size) × (q ≡ passed zs) × ((s : Size) × (rowAt t p (sizeAt zs) n ≡ sized s) × (ys ≡ zs ++ (s ∷ [])))
@@ -130,9 +131,10 @@ module _ (t p : List ℕ) where
     unfolding ruleAt
     good-of = record {
       lawful = λ i l.
-          law i .lawful (nodeAt t p i) (sizeAt zs)
-          (record { node = l; fit = λ j m. sizes-fit j (omega arith); fixes = λ j m k. scan-passed (nodes t) e j m .size ∙ endless-fix j k (sizeAt zs) })
-          (scan-passed (nodes t) e i l .holds);
+          let h = scan-passed (nodes t) e i l .holds in
+          rw (law i .sees (nodeAt t p i) (sizeAt zs) h)
+          (law i .lawful (nodeAt t p i) (sizeAt zs)
+          (record { node = l; fit = λ j m. sizes-fit j (omega arith); fixes = λ j m k. scan-passed (nodes t) e j m .size ∙ endless-fix j k (sizeAt zs) }) h);
       sized = λ i l. scan-passed (nodes t) e i l .size;
     }
 

@@ -6,7 +6,7 @@ use mathlib.Core.Path.{_≡_}
 use Prim.Native.Nat.{ℕ, zero, suc, _≤_}
 use native.Mathlib.Omega.{arith}
 use lib.ListN.{length, List·getD-eq-default}
-use Rattle.grammar.specs.Nodes.{kinds, unknown, kindIn}
+use Rattle.grammar.specs.kinds.{kinds, unknown, kindIn}
 
 abbrev pub Others : ℕ → ℕ → Type 0
 Others zero k = Unit {0}

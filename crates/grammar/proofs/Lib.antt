@@ -8,7 +8,6 @@ pub mod Words
 pub mod Seconds
 pub mod KindLaw
 pub mod laws
-pub mod Kept
 pub mod Sizes
 pub mod Checked
 pub mod Turns

@@ -1,4 +1,9 @@
--- A file a kind: it keeps the law, and where its steps lead.
+-- A file a kind: it keeps the law, where its steps lead, and what else its checks leave. And of all kinds, an entry each, in the order of `kinds`:
+--   rules     their rules, opened by one name; ruling also what those are made of
+--   laws      each keeps the law
+--   lowers    all steps lead to lower nodes but again's, which goes up to its fix
+--   plains    all are no excepts but except
+-- Assumes nothing.
 pub mod Below
 pub mod Nats
 pub mod Pool
@@ -9,3 +14,55 @@ pub mod Dep
 pub mod Except
 pub mod Fix
 pub mod Again
+
+use mathlib.Core.Path.{refl}
+use mathlib.Core.Bool.{false≢true}
+use Rattle.graph.specs.Ways.{has}
+use Rattle.grammar.specs.Checks.{different, every, total}
+use Rattle.grammar.specs.kinds.{kinds, unknown}
+use Rattle.grammar.specs.kinds.Below.{belowRule}
+use Rattle.grammar.specs.kinds.Nats.{natsRule}
+use Rattle.grammar.specs.kinds.Pool.{placeOf, poolRule}
+use Rattle.grammar.specs.kinds.Shift.{shiftRule}
+use Rattle.grammar.specs.kinds.Or.{orRule}
+use Rattle.grammar.specs.kinds.Cons.{consRule}
+use Rattle.grammar.specs.kinds.Dep.{secondsOf, depRule}
+use Rattle.grammar.specs.kinds.Except.{exceptRule}
+use Rattle.grammar.specs.kinds.Fix.{passRule}
+use Rattle.grammar.proofs.KindLaw.{KindLaw, Lower, Plain, All, AllBut}
+use Rattle.grammar.proofs.laws.Below.{below-law, below-lower}
+use Rattle.grammar.proofs.laws.Nats.{nats-law, nats-lower}
+use Rattle.grammar.proofs.laws.Pool.{pool-law, pool-lower}
+use Rattle.grammar.proofs.laws.Shift.{shift-law, shift-lower}
+use Rattle.grammar.proofs.laws.Or.{or-law, or-lower}
+use Rattle.grammar.proofs.laws.Cons.{cons-law, cons-lower}
+use Rattle.grammar.proofs.laws.Dep.{dep-law, dep-lower}
+use Rattle.grammar.proofs.laws.Except.{except-law, except-lower}
+use Rattle.grammar.proofs.laws.Fix.{fix-law, fix-lower}
+use Rattle.grammar.proofs.laws.Again.{again-law}
+
+unfoldable pub rules : Unit {0}
+unfolding belowRule natsRule poolRule shiftRule orRule consRule depRule exceptRule passRule
+rules = tt
+
+unfoldable pub ruling : Unit {0}
+unfolding rules has placeOf different every total secondsOf
+ruling = tt
+
+pub laws : All KindLaw kinds
+laws = (below-law, (nats-law, (pool-law, (shift-law, (or-law, (cons-law, (dep-law, (except-law, (fix-law, (again-law, tt))))))))))
+
+-- no check of an unknown kind is passed
+pub unknown-law : KindLaw unknown
+unknown-law = record { sees = λ v z h. refl; lawful = λ v z r h. absurd (false≢true (h .0)); fit = λ v z f h. absurd (false≢true (h .0)) }
+
+pub lowers : AllBut 9 Lower kinds
+lowers = (below-lower, (nats-lower, (pool-lower, (shift-lower, (or-lower, (cons-lower, (dep-lower, (except-lower, (fix-lower, tt)))))))))
+
+pub unknown-lower : Lower unknown
+unknown-lower v z h = tt
+
+pub plains : AllBut 7 Plain kinds
+unfolding rules
+plains =
+    (λ a b p z. refl, (λ a b p z. refl, (λ a b p z. refl, (λ a b p z. refl, (λ a b p z. refl, (λ a b p z. refl, (λ a b p z. refl, (λ a b p z. refl, (λ a b p z. refl, tt)))))))))

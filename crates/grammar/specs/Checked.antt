@@ -9,7 +9,8 @@ use Rattle.numbers.specs.Size.{Size}
 use Rattle.grammar.specs.Table.{kindOf, nodes}
 use Rattle.grammar.specs.Law.{Fit, Holds, Good}
 use Rattle.grammar.specs.Kind.{before}
-use Rattle.grammar.specs.Nodes.{kindIn, nodeAt, ruleAt}
+use Rattle.grammar.specs.kinds.{kindIn}
+use Rattle.grammar.specs.Nodes.{nodeAt, ruleAt}
 
 -- z has the sizes
 pub record Checked (t p : List ℕ) (z : ℕ → Size) : Type 0 where

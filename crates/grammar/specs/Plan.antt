@@ -19,7 +19,7 @@ use Rattle.grammar.specs.Checks.{Row, fault, sized, row}
 use Rattle.grammar.specs.Law.{Fit}
 use Rattle.grammar.specs.Rule.{Rule}
 use Rattle.grammar.specs.Kind.{Node, Kind, before}
-use Rattle.grammar.specs.Nodes.{kindIn}
+use Rattle.grammar.specs.kinds.{kindIn}
 use Rattle.grammar.specs.Checked.{Checked}
 use Rattle.grammar.specs.Sizes.{sizeAt, scan, passed, faulty, sizes}
 use Rattle.numbers.specs.declared.size.Measured.{Measured}

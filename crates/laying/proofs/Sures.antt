@@ -1,7 +1,7 @@
--- Widths of nodes: what each bounds, kind by kind, and a list of them that is filled node by node.
+-- Widths of nodes: what each bounds, by what its visits show, and a list of them that is filled node by node.
 --   few-..      cells put together
 --   held-few    what items show, where their parts are bounded
---   width-..    the width of a node of each kind, from those of its parts
+--   width-..    the width of a node whose visits show a cell, a part, a tag and a part, or two parts
 --   part-..     a place of the list, and one past it
 --   widths-..   a list of widths that say nothing; one width more
 --   sure-by     a width that fits the room
@@ -17,23 +17,17 @@ use lib.Seq.{getD-set-same, getD-set-other}
 use Rattle.graph.proofs.Marks.{same?}
 use Rattle.numbers.specs.declared.or.Part.{Part}
 use Rattle.numbers.specs.declared.or.Part.the-variants.{First, Second}
-use Rattle.numbers.specs.Or
+use Rattle.numbers.specs.declared.cons.Pair.{Pair}
 use Rattle.grammar.specs.Rule.{Item, own, part}
 use Rattle.grammar.specs.Law.{Each}
-use Rattle.grammar.specs.Plan.{sizeIn, kindWord, aWord, bWord, ruleIn}
+use Rattle.grammar.specs.kinds.Or.{tagged}
+use Rattle.grammar.specs.kinds.Cons.{both}
+use Rattle.grammar.specs.Plan.{ruleIn}
 use Rattle.walk.specs.Walk.{Event, cell, shown, walk, depth}
 use Rattle.walk.specs.Room.{most}
 use Rattle.walk.specs.Plan.{Visits}
 use Rattle.laying.specs.Sure.{Few, Sure, Bounded, wide, Width, widthAt, Widths}
 use Rattle.walk.proofs.Visit.{walk-by, Next, next-by}
-use Rattle.walk.proofs.kinds.Below.{below-items}
-use Rattle.walk.proofs.kinds.Nats.{nats-items}
-use Rattle.walk.proofs.kinds.Pool.{pool-items}
-use Rattle.walk.proofs.kinds.Shift.{shift-items}
-use Rattle.walk.proofs.kinds.Or.{or-first, or-second}
-use Rattle.walk.proofs.kinds.Cons.{cons-items}
-use Rattle.walk.proofs.kinds.Except.{except-items}
-use Rattle.walk.proofs.kinds.Fix.{fix-items}
 
 -- ---- cells put together
 few-more : {es : List Event} {u w : ℕ} → u ≤ w → Few es u → Few es w
@@ -92,43 +86,33 @@ module _ {plan : List ℕ} {i w h : ℕ} where
   pub width-none : wide ≡ w → Width plan i w h
   width-none e = record { low = omega arith; bounds = λ k. absurd (omega arith) }
 
--- ---- kind by kind; a part's width is as its list has it
+-- ---- shape by shape, whatever the kind: what every visit of the node shows; a part's width is as its list has it
 pub of-part : {plan widths : List ℕ} {h a x : ℕ} → Widths plan widths h → x ≡ widthAt widths a → Width plan a x h
 of-part {a = a} ws e = rw e (ws .at a)
 
-module _ {plan widths : List ℕ} {h : ℕ} (ws : Widths plan widths h) (i : ℕ) where
-  pub width-below : kindWord plan i ≡ 0 → Width plan i 1 (h + 1)
-  width-below k = width-by h (omega arith) (λ l p n v. (_, below-items v k, (0, omega arith, tt)))
+-- of every visit of node i
+abbrev Shows : List ℕ → ℕ → (List Item → Type 0) → Type 0
+Shows plan i P = (p : List ℕ) (n : ℕ) → Visits plan p i n → P (ruleIn plan p i .items n)
 
-  pub width-nats : kindWord plan i ≡ 1 → Width plan i 1 (h + 1)
-  width-nats k = width-by h (omega arith) (λ l p n v. (_, nats-items v k, (0, omega arith, tt)))
+module _ {plan widths : List ℕ} {h : ℕ} (ws : Widths plan widths h) {i : ℕ} where
+  pub width-cell : Shows plan i (λ is. (c : ℕ) × (is ≡ own c ∷ [])) → Width plan i 1 (h + 1)
+  width-cell f = width-by h (omega arith) (λ l p n v. (_, f p n v .1, (0, omega arith, tt)))
 
-  pub width-pool : kindWord plan i ≡ 2 → Width plan i 1 (h + 1)
-  width-pool k = width-by h (omega arith) (λ l p n v. (_, pool-items v k refl, (0, omega arith, tt)))
+  pub width-part : {a x : ℕ} → x ≡ widthAt widths a → Shows plan i (λ is. (m k : ℕ) × (is ≡ part a m k ∷ [])) → Width plan i x (h + 1)
+  width-part e f = let a = of-part ws e in width-by h (a .low) (λ l p n v. (_, f p n v .2, held-one (a .bounds l)))
 
-  module _ {x : ℕ} (e : x ≡ widthAt widths (aWord plan i)) where
-    pub width-shift : kindWord plan i ≡ 3 → Width plan i x (h + 1)
-    width-shift k = let a = of-part ws e in width-by h (a .low) (λ l p n v. (_, shift-items v k, held-one (a .bounds l)))
-
-    pub width-except : kindWord plan i ≡ 7 → Width plan i x (h + 1)
-    width-except k = let a = of-part ws e in width-by h (a .low) (λ l p n v. (_, except-items v k refl, held-one (a .bounds l)))
-
-    pub width-fix : kindWord plan i ≡ 8 → Width plan i x (h + 1)
-    width-fix k = let a = of-part ws e in width-by h (a .low) (λ l p n v. (_, fix-items v k, held-one (a .bounds l)))
-
-  module _ {x y : ℕ} (ex : x ≡ widthAt widths (aWord plan i)) (ey : y ≡ widthAt widths (bWord plan i)) where
-    pub width-or : kindWord plan i ≡ 4 → {m w : ℕ} → m ≡ max x y → w ≡ min (1 + m) wide → Width plan i w (h + 1)
-    width-or k {m} {w} em ew = width-by h (omega arith) (λ l p n v. by l v (Or.split (sizeIn plan (aWord plan i)) (sizeIn plan (bWord plan i)) n) refl)
+  module _ {a b x y : ℕ} (ex : x ≡ widthAt widths a) (ey : y ≡ widthAt widths b) where
+    pub width-tag : Shows plan i (λ is. (q : Part) × (is ≡ tagged a b q)) → {m w : ℕ} → m ≡ max x y → w ≡ min (1 + m) wide → Width plan i w (h + 1)
+    width-tag f {m} {w} em ew = width-by h (omega arith) (λ l p n v. by l (f p n v .0) (f p n v .1))
       where
-        by : w ≤ most → {p : List ℕ} {n : ℕ} → Visits plan p i n → (q : Part) → Or.split (sizeIn plan (aWord plan i)) (sizeIn plan (bWord plan i)) n ≡ q
-            → (is : List Item) × (ruleIn plan p i .items n ≡ is) × Held plan h w is
-        by l v (First z) f = (_, or-first v k refl f, (x, omega arith, held-one (of-part ws ex .bounds (omega arith))))
-        by l v (Second z) f = (_, or-second v k refl f, (y, omega arith, held-one (of-part ws ey .bounds (omega arith))))
+        by : w ≤ most → {is : List Item} (q : Part) → is ≡ tagged a b q → (js : List Item) × (is ≡ js) × Held plan h w js
+        by l (First z) e = (_, e, (x, omega arith, held-one (of-part ws ex .bounds (omega arith))))
+        by l (Second z) e = (_, e, (y, omega arith, held-one (of-part ws ey .bounds (omega arith))))
 
-    pub width-cons : kindWord plan i ≡ 5 → {w : ℕ} → w ≡ min (x + y) wide → Width plan i w (h + 1)
-    width-cons k {w} ew =
+    pub width-two : Shows plan i (λ is. (q : Pair) × (is ≡ both a b q)) → {w : ℕ} → w ≡ min (x + y) wide → Width plan i w (h + 1)
+    width-two f {w} ew =
         width-by h (omega arith)
-        (λ l p n v. (_, cons-items v k refl, (x, y, omega arith, of-part ws ex .bounds (omega arith), held-one (of-part ws ey .bounds (omega arith)))))
+        (λ l p n v. (_, f p n v .1, (x, y, omega arith, of-part ws ex .bounds (omega arith), held-one (of-part ws ey .bounds (omega arith)))))
 
 -- ---- the list of widths
 pub part-in : (widths : List ℕ) (a : ℕ) → a < length widths → getD widths a 0 ≡ widthAt widths a

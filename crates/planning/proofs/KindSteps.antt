@@ -25,7 +25,8 @@ use Rattle.grammar.specs.kinds.Cons.{consRule}
 use Rattle.grammar.specs.kinds.Dep.{depRule, dep}
 use Rattle.grammar.specs.kinds.Except.{exceptRule}
 use Rattle.grammar.specs.kinds.Fix.{passRule}
-use Rattle.grammar.specs.Nodes.{kinds, kindIn, nodeAt, ruleAt}
+use Rattle.grammar.specs.kinds.{kinds, kindIn}
+use Rattle.grammar.specs.Nodes.{nodeAt, ruleAt}
 use Rattle.grammar.specs.Steps.{stepsOf}
 use Rattle.grammar.specs.Plan.{sizeIn, Ready}
 use Rattle.grammar.specs.Seconds.{firsts}

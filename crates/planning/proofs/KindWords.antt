@@ -16,7 +16,8 @@ use Rattle.numbers.specs.Size.{Size}
 use Rattle.grammar.specs.Table.{kindOf, aOf, bOf}
 use Rattle.grammar.specs.Checks.{Check, asks, row}
 use Rattle.grammar.specs.Kind.{Node, Kind, spare}
-use Rattle.grammar.specs.Nodes.{kinds, usedWords, unknown, kindIn, nodeAt, ruleAt, rowAt}
+use Rattle.grammar.specs.kinds.{kinds, usedWords, unknown, kindIn}
+use Rattle.grammar.specs.Nodes.{nodeAt, ruleAt, rowAt}
 use Rattle.grammar.specs.Plan.{coded, weighed}
 use Rattle.grammar.specs.declared.refusal.Refusal.{Refusal}
 use Rattle.grammar.specs.declared.refusal.Refusal.the-variants.{Kind as NoKind, SpareWord}

@@ -4,7 +4,7 @@ ghost use mathlib.Core.List.{List};
 ghost use Prim.Native.Nat.{ℕ, _<_};
 ghost use Rattle.numbers.specs.Size.{Size};
 ghost use Rattle.grammar.specs.Table.{nodes};
-ghost use Rattle.grammar.specs.Nodes.{kindIn};
+ghost use Rattle.grammar.specs.kinds.{kindIn};
 ghost use Rattle.grammar.specs.Steps.{stepsOf};
 ghost use Rattle.grammar.specs.Plan.{sizeIn, Ready};
 ghost use Rattle.grammar.specs.Named.{Names};

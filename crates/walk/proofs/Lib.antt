@@ -7,6 +7,6 @@ pub mod Fills
 pub mod Rooms
 pub mod Visit
 pub mod Nodes
-pub mod kinds
+pub mod Choosing
 pub mod Plans
 pub mod Opened

@@ -9,24 +9,22 @@ use Prim.Native.Nat.{ℕ, zero, suc, _*_, _^_, _≤_, _<_}
 use native.Mathlib.Omega.{arith}
 use lib.ListN.{length}
 use Rattle.numbers.specs.Size.{endless, sizeOf}
-use Rattle.grammar.specs.Rule.{Rule}
 use Rattle.grammar.specs.Kind.{before}
 use Rattle.grammar.specs.Law.{Holds, Fit}
-use Rattle.grammar.specs.Nodes.{kinds, unknown, kindIn}
-use Rattle.grammar.specs.Plan.{sizeIn, kindWord, nodeIn, ruleIn}
+use Rattle.grammar.specs.kinds.{kinds, unknown, kindIn}
+use Rattle.grammar.specs.Plan.{sizeIn, kindWord, aWord, bWord, nodeIn, ruleIn}
 use Rattle.grammar.specs.kinds.Fix.{passRule}
 use Rattle.grammar.proofs.KindLaw.{fit-some, KindLaw, each-kind}
-use Rattle.grammar.proofs.Kept.{laws, unknown-law}
-use Rattle.grammar.proofs.Opened.{rules}
+use Rattle.grammar.proofs.laws.{laws, unknown-law}
+use Rattle.grammar.proofs.Opened.{checking}
 use Rattle.walk.specs.Plan.{Walkable, Visits}
-use Rattle.walk.proofs.kinds.Fix.{fix-rule}
 
 module _ (plan p : List ℕ) (count : ℕ) (holds : (i : ℕ) → i < count → Holds (kindIn (kindWord plan i) .checks (nodeIn plan p count i) (before (sizeIn plan) i)))
     (sized : (i : ℕ) → i < count → sizeIn plan i ≡ ruleIn plan p i .size) (fit : (i : ℕ) → i < count → Fit (sizeIn plan i)) where
   -- a fix is endless, whatever its node
   fixes : (i : ℕ) → i < count → kindWord plan i ≡ 8 → sizeIn plan i ≡ endless
-  unfolding passRule
-  fixes i l e = sized i l ∙ ap (λ (r : Rule). r .size) (fix-rule plan p i e)
+  unfolding passRule ruleIn
+  fixes i l e = sized i l ∙ ap (λ (k : ℕ). kindIn k .rule (aWord plan i) (bWord plan i) p (before (sizeIn plan) i) .size) e
 
   pub plan-walks : 4 * count ≤ length plan → length plan ≤ 1024 → length p ≤ 4096 → Walkable plan p
   unfolding ruleIn
@@ -35,8 +33,10 @@ module _ (plan p : List ℕ) (count : ℕ) (holds : (i : ℕ) → i < count → 
     long = long;
     good = record {
       lawful = λ i l.
-          each-kind KindLaw kinds unknown laws unknown-law (kindWord plan i) .lawful (nodeIn plan p count i) (sizeIn plan)
-          (record { node = l; fit = λ j m. fit j (omega arith); fixes = fixes }) (holds i l);
+          let k = each-kind KindLaw kinds unknown laws unknown-law (kindWord plan i) in
+          let v = nodeIn plan p count i in
+          rw (k .sees v (sizeIn plan) (holds i l))
+          (k .lawful v (sizeIn plan) (record { node = l; fit = λ j m. fit j (omega arith); fixes = fixes }) (holds i l));
       sized = sized;
     };
     holds = holds;
@@ -69,7 +69,7 @@ ten P a b c d e f g h j k (suc (suc (suc (suc (suc (suc (suc (suc (suc zero)))))
 ten P a b c d e f g h j k (suc (suc (suc (suc (suc (suc (suc (suc (suc (suc i)))))))))) l = absurd (omega arith)
 
 pub trees-walk : Walkable trees words
-unfolding ruleIn rules sizeOf
+unfolding ruleIn checking sizeOf
 trees-walk =
     plan-walks trees words 10
     (ten (λ i. Holds (kindIn (kindWord trees i) .checks (nodeIn trees words 10 i) (before (sizeIn trees) i)))

@@ -14,7 +14,7 @@ use lib.ListN.{length, getD, take, drop}
 use Rattle.numbers.specs.Size.{Below, Some}
 use Rattle.grammar.specs.Law.{Good, Holds}
 use Rattle.grammar.specs.Kind.{before}
-use Rattle.grammar.specs.Nodes.{kindIn}
+use Rattle.grammar.specs.kinds.{kindIn}
 use Rattle.grammar.specs.Plan.{sizeIn, kindWord, nodeIn, ruleIn}
 use Rattle.grammar.specs.Checks.{allFinite, allEndless}
 use Rattle.grammar.specs.Seconds.{firsts, DepIn}

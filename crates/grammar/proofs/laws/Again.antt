@@ -1,6 +1,7 @@
 -- The law of again. Its step leads up.
 --   again-law    its rule is lawful, and its size fits
 -- Assumes nothing.
+use mathlib.Core.Path.{refl}
 use mathlib.Core.Bool.{_&&_}
 use lib.Dec.{ltb}
 use borrow.Author.Tests.{ltb-true, eqb-true}
@@ -12,6 +13,7 @@ use Rattle.grammar.proofs.laws.Fix.{pass-rule}
 
 pub again-law : KindLaw again
 again-law = record {
+  sees = λ v z h. refl;
   lawful = λ v z r h.
       let l = and-left (ltb (v .own) (v .a) && ltb (v .a) (v .nodes)) _ (h .0) in
       let la = ltb-true (v .a) (v .nodes) (and-right (ltb (v .own) (v .a)) _ l) in

@@ -1,17 +1,19 @@
 -- The law of below.
 --   below-law      its rule is lawful, and its size fits
 --   below-lower    it steps nowhere
+--   below-most     its count is at most 2^62
 -- Assumes nothing.
 use mathlib.Core.Path.{_≡_, refl}
 use mathlib.Core.List.{[], _∷_}
-use Prim.Native.Nat.{ℕ, _^_, _<_}
+use Prim.Native.Nat.{ℕ, _^_, _<_, _≤_}
 use lib.Dec.{ltb, leb}
 use borrow.Author.Tests.{ltb-true, leb-true, lt-ltb}
 use Rattle.numbers.specs.Pick.{pick}
 use Rattle.numbers.specs.Size.{Size}
 use Rattle.numbers.proofs.Tests.{and-left, and-right}
 use Rattle.grammar.specs.Rule.{own, done, fails, reads}
-use Rattle.grammar.specs.Law.{Lawful}
+use Rattle.grammar.specs.Law.{Lawful, Holds}
+use Rattle.grammar.specs.Kind.{Node, before}
 use Rattle.grammar.proofs.Trees.{spell-done, spell-takes, spell-left, read-pick, names-pick}
 use Rattle.grammar.proofs.KindLaw.{KindLaw, Lower}
 use Rattle.grammar.specs.kinds.Below.{belowRule, below}
@@ -29,10 +31,14 @@ below-rule z count a = record {
   falls = λ n h. tt;
 }
 
+pub below-most : (v : Node) (z : ℕ → Size) → Holds (below .checks v z) → v .a ≤ 2 ^ 62
+below-most v z h = leb-true (v .a) (2 ^ 62) (and-right (leb 1 (v .a)) _ (h .0))
+
 pub below-law : KindLaw below
 below-law = record {
+  sees = λ v z h. refl;
   lawful = λ v z r h. below-rule z (v .nodes) (v .a);
-  fit = λ v z f h. unfold belowRule in (leb-true 1 (v .a) (and-left _ _ (h .0)), leb-true (v .a) (2 ^ 62) (and-right (leb 1 (v .a)) _ (h .0)));
+  fit = λ v z f h. unfold belowRule in (leb-true 1 (v .a) (and-left _ _ (h .0)), below-most v (before z (v .own)) h);
 }
 
 pub below-lower : Lower below

@@ -12,9 +12,8 @@ use borrow.Author.Tests.{ltb-true, leb-true}
 use Rattle.numbers.specs.Size.{Size, finite, endless, Some, times}
 use Rattle.grammar.specs.Checks.{fits}
 use Rattle.grammar.specs.Law.{Fit, flat, Lawful}
-use Rattle.numbers.proofs.Tests.{and-left, and-right}
 use Rattle.grammar.specs.Rule.{reads}
-use Rattle.grammar.proofs.KindLaw.{fit-some, KindLaw, Lower}
+use Rattle.grammar.proofs.KindLaw.{fit-some, lower-both, KindLaw, Lower}
 use native.Mathlib.Nat.{mul-le-mul}
 use Rattle.numbers.specs.Cons
 use Rattle.numbers.proofs.cons.Laws as Conses
@@ -47,21 +46,19 @@ fit-times endless t h k e = tt
 
 pub cons-law : KindLaw cons
 cons-law = record {
+  sees = λ v z h. rw (lower-both v (h .0) .0, lower-both v (h .0) .1);
   lawful = λ v z r h.
-      let ea = and-left (ltb (v .a) (v .own)) (ltb (v .b) (v .own)) (h .0) in
-      let eb = and-right (ltb (v .a) (v .own)) (ltb (v .b) (v .own)) (h .0) in
+      let (ea, eb) = lower-both v (h .0) in
       let la = ltb-true (v .a) (v .own) ea in
       let lb = ltb-true (v .b) (v .own) eb in
-      rw (ea, eb) (cons-rule z (v .nodes) (v .a) (v .b) (omega (arith, r .node)) (omega (arith, r .node))
-      (fit-some (z (v .a)) (r .fit (v .a) la)) (fit-some (z (v .b)) (r .fit (v .b) lb)));
+      cons-rule z (v .nodes) (v .a) (v .b) (omega (arith, r .node)) (omega (arith, r .node)) (fit-some (z (v .a)) (r .fit (v .a) la))
+      (fit-some (z (v .b)) (r .fit (v .b) lb));
   fit = λ v z f h.
-      let ea = and-left (ltb (v .a) (v .own)) (ltb (v .b) (v .own)) (h .0) in
-      let eb = and-right (ltb (v .a) (v .own)) (ltb (v .b) (v .own)) (h .0) in
-      unfold consRule in rw (ea, eb) (fit-times (z (v .a)) (z (v .b)) (f (v .a) (ltb-true (v .a) (v .own) ea)) (f (v .b) (ltb-true (v .b) (v .own) eb))
-      (rw (ea, eb) at (h .1 .0)));
+      let (ea, eb) = lower-both v (h .0) in
+      unfold consRule in fit-times (z (v .a)) (z (v .b)) (f (v .a) (ltb-true (v .a) (v .own) ea)) (f (v .b) (ltb-true (v .b) (v .own) eb))
+      (rw (ea, eb) at (h .1 .0));
 }
 
 pub cons-lower : Lower cons
 unfolding consRule
-cons-lower v z h =
-    (ltb-true (v .a) (v .own) (and-left _ (ltb (v .b) (v .own)) (h .0)), (ltb-true (v .b) (v .own) (and-right (ltb (v .a) (v .own)) _ (h .0)), tt))
+cons-lower v z h = let (ea, eb) = lower-both v (h .0) in (ltb-true (v .a) (v .own) ea, (ltb-true (v .b) (v .own) eb, tt))

@@ -137,15 +137,15 @@ fit-total z n f [] e l u = absurd (not-suc-le-zero l)
 fit-total z n f (c ∷ cs) e l u = fit-plus (z c) (total z cs) (f c (ltb-true c n (and-left (ltb c n) (allLower n cs) e))) u
 
 -- what a dep's checks show
-record Shown (v : Node) (z : ℕ → Size) : Type 0 where
-  low : ltb (v .a) (v .own) ≡ true
-  small : few (z (v .a)) ≡ true
-  inside : v .b + countOf (z (v .a)) ≤ length (v .pool)
-  lower : allLower (v .own) (seconds (v .pool) (v .b) (z (v .a))) ≡ true
-  alike : (allFinite z (seconds (v .pool) (v .b) (z (v .a))) || allEndless z (seconds (v .pool) (v .b) (z (v .a)))) ≡ true
-  fitting : fits (total z (seconds (v .pool) (v .b) (z (v .a)))) ≡ true
+pub record Shown (v : Node) (z : ℕ → Size) : Type 0 where
+  pub low : ltb (v .a) (v .own) ≡ true
+  pub small : few (z (v .a)) ≡ true
+  pub inside : v .b + countOf (z (v .a)) ≤ length (v .pool)
+  pub lower : allLower (v .own) (seconds (v .pool) (v .b) (z (v .a))) ≡ true
+  pub alike : (allFinite z (seconds (v .pool) (v .b) (z (v .a))) || allEndless z (seconds (v .pool) (v .b) (z (v .a)))) ≡ true
+  pub fitting : fits (total z (seconds (v .pool) (v .b) (z (v .a)))) ≡ true
 
-shows : (v : Node) (z : ℕ → Size) → Holds (dep .checks v (before z (v .own))) → Shown v z
+pub shows : (v : Node) (z : ℕ → Size) → Holds (dep .checks v (before z (v .own))) → Shown v z
 shows v z h =
     let cs = seconds (v .pool) (v .b) (z (v .a)) in
     let low : allLower (v .own) cs ≡ true = rw (h .0) at (h .1 .1 .1 .0) in
@@ -176,17 +176,20 @@ module _ (v : Node) (z : ℕ → Size) (f : (i : ℕ) → i < v .own → Fit (z 
 
 pub dep-law : KindLaw dep
 dep-law = record {
+  sees = λ v z h.
+      let cs = seconds (v .pool) (v .b) (z (v .a)) in
+      let l = shows v z h .lower in
+      rw (h .0, total-before z (v .own) cs l, seconds-before z (v .own) cs l);
   lawful = λ v z r h.
       let d = shows v z h in
       let cs = seconds (v .pool) (v .b) (z (v .a)) in
       let la = ltb-true (v .a) (v .own) (h .0) in
-      rw (h .0, total-before z (v .own) cs (d .lower), seconds-before z (v .own) cs (d .lower))
-      (dep-rule z (v .nodes) (v .a) cs (seconds-long v z (r .fit) d) (d .small) (first-some v z (r .fit) d) (d .alike) (second-some v z (r .fit) d)
-      (omega (arith, r .node)) (lower-under (v .nodes) (v .own) cs (omega (arith, r .node)) (d .lower)));
+      dep-rule z (v .nodes) (v .a) cs (seconds-long v z (r .fit) d) (d .small) (first-some v z (r .fit) d) (d .alike) (second-some v z (r .fit) d)
+      (omega (arith, r .node)) (lower-under (v .nodes) (v .own) cs (omega (arith, r .node)) (d .lower));
   fit = λ v z f h.
       let d = shows v z h in
       let cs = seconds (v .pool) (v .b) (z (v .a)) in
-      unfold depRule in rw (h .0, total-before z (v .own) cs (d .lower)) (fit-total z (v .own) f cs (d .lower) (seconds-many v z f d) (d .fitting));
+      unfold depRule in fit-total z (v .own) f cs (d .lower) (seconds-many v z f d) (d .fitting);
 }
 
 pub dep-lower : Lower dep

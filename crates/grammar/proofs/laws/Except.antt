@@ -1,6 +1,7 @@
 -- The law of except.
 --   except-law      its rule is lawful, and its size fits
 --   except-lower    its steps lead to lower nodes
+--   except-small    the removed number is below 2^62
 -- Assumes nothing.
 use mathlib.Core.Path.{_≡_, refl, subst}
 use mathlib.Core.Bool.{true, not}
@@ -11,9 +12,11 @@ use lib.Dec.{eqb, ltb}
 use borrow.Author.Tests.{ltb-true, eqb-false, ne-eqb, not-true}
 use Rattle.numbers.specs.Pick.{pick}
 use Rattle.numbers.specs.Size.{Size, finite, endless, Below, less}
+use Rattle.numbers.specs.Size.{below as isBelow}
 use Rattle.grammar.specs.Checks.{isOne}
-use Rattle.grammar.specs.Law.{Fit, Spells, skip, Lawful}
-use Rattle.numbers.proofs.Tests.{and-left}
+use Rattle.grammar.specs.Law.{Fit, Spells, skip, Lawful, Holds}
+use Rattle.grammar.specs.Kind.{Node}
+use Rattle.numbers.proofs.Tests.{and-left, and-right}
 use Rattle.grammar.specs.Rule.{part, done, fails, reads}
 use Rattle.grammar.proofs.Trees.{spell-done, spell-reads, spell-right, read-pick, names-pick}
 use Rattle.grammar.proofs.KindLaw.{KindLaw, Lower}
@@ -47,12 +50,16 @@ fit-less endless h e = tt
 
 pub except-law : KindLaw except
 except-law = record {
+  sees = λ v z h. rw (h .0);
   lawful = λ v z r h.
       let la = ltb-true (v .a) (v .own) (h .0) in
       let hb = below-is (v .b) (z (v .a)) .1 (and-left _ (ltb (v .b) (2 ^ 62)) (rw (h .0) at (h .1 .1 .0))) in
-      rw (h .0) (except-rule z (v .nodes) (v .a) (v .b) (omega (arith, r .node)) hb);
-  fit = λ v z f h. unfold exceptRule in rw (h .0) (fit-less (z (v .a)) (f (v .a) (ltb-true (v .a) (v .own) (h .0))) (rw (h .0) at (h .1 .0)));
+      except-rule z (v .nodes) (v .a) (v .b) (omega (arith, r .node)) hb;
+  fit = λ v z f h. unfold exceptRule in fit-less (z (v .a)) (f (v .a) (ltb-true (v .a) (v .own) (h .0))) (rw (h .0) at (h .1 .0));
 }
+
+pub except-small : (v : Node) (z : ℕ → Size) → Holds (except .checks v z) → v .b < 2 ^ 62
+except-small v z h = ltb-true (v .b) (2 ^ 62) (and-right (isBelow (v .b) (z (v .a))) _ (h .1 .1 .0))
 
 pub except-lower : Lower except
 unfolding exceptRule

@@ -30,6 +30,7 @@ pass-rule z count a l e = record {
 
 pub fix-law : KindLaw fix
 fix-law = record {
+  sees = λ v z h. refl;
   lawful = λ v z r h.
       let la = ltb-true (v .a) (v .own) (h .0) in
       pass-rule z (v .nodes) (v .a) (omega (arith, r .node)) (is-endless (z (v .a)) (rw (h .0) at (h .1 .0)));

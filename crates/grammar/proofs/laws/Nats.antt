@@ -24,7 +24,7 @@ nats-rule z count = record {
 }
 
 pub nats-law : KindLaw nats
-nats-law = record { lawful = λ v z r h. nats-rule z (v .nodes); fit = λ v z f h. unfold natsRule in tt }
+nats-law = record { sees = λ v z h. refl; lawful = λ v z r h. nats-rule z (v .nodes); fit = λ v z f h. unfold natsRule in tt }
 
 pub nats-lower : Lower nats
 unfolding natsRule

@@ -10,10 +10,9 @@ use lib.Dec.{eqb, ltb}
 use borrow.Author.Tests.{ltb-true, eqb-true}
 use Rattle.numbers.specs.Size.{Size, finite, endless, Below, Some, plus}
 use Rattle.grammar.specs.Law.{Spells, Each, Down, flat, guarded, Lawful}
-use Rattle.numbers.proofs.Tests.{and-left, and-right}
 use Rattle.grammar.specs.Rule.{Item, own, reads, Rule}
 use Rattle.grammar.proofs.Trees.{spell-done, spell-takes, spell-reads, read-pick, names-pick}
-use Rattle.grammar.proofs.KindLaw.{fit-some, fit-plus, KindLaw, Lower}
+use Rattle.grammar.proofs.KindLaw.{fit-some, fit-plus, lower-both, KindLaw, Lower}
 use Rattle.numbers.specs.Or
 use Rattle.numbers.specs.Or.{PartBelow, turn}
 use Rattle.numbers.specs.declared.or.Part.{Part}
@@ -63,19 +62,17 @@ module _ (z : ℕ → Size) (count a b : ℕ) where
 
 pub or-law : KindLaw or
 or-law = record {
+  sees = λ v z h. rw (lower-both v (h .0) .0, lower-both v (h .0) .1);
   lawful = λ v z r h.
-      let ea = and-left (ltb (v .a) (v .own)) (ltb (v .b) (v .own)) (h .0) in
-      let eb = and-right (ltb (v .a) (v .own)) (ltb (v .b) (v .own)) (h .0) in
+      let (ea, eb) = lower-both v (h .0) in
       let la = ltb-true (v .a) (v .own) ea in
       let lb = ltb-true (v .b) (v .own) eb in
-      rw (ea, eb) (or-rule z (v .nodes) (v .a) (v .b) (omega (arith, r .node)) (omega (arith, r .node)) (fit-some (z (v .a)) (r .fit (v .a) la)));
+      or-rule z (v .nodes) (v .a) (v .b) (omega (arith, r .node)) (omega (arith, r .node)) (fit-some (z (v .a)) (r .fit (v .a) la));
   fit = λ v z f h.
-      let ea = and-left (ltb (v .a) (v .own)) (ltb (v .b) (v .own)) (h .0) in
-      let eb = and-right (ltb (v .a) (v .own)) (ltb (v .b) (v .own)) (h .0) in
-      unfold orRule in rw (ea, eb) (fit-plus (z (v .a)) (z (v .b)) (f (v .a) (ltb-true (v .a) (v .own) ea)) (rw (ea, eb) at (h .1 .0)));
+      let (ea, eb) = lower-both v (h .0) in
+      unfold orRule in fit-plus (z (v .a)) (z (v .b)) (f (v .a) (ltb-true (v .a) (v .own) ea)) (rw (ea, eb) at (h .1 .0));
 }
 
 pub or-lower : Lower or
 unfolding orRule
-or-lower v z h =
-    (ltb-true (v .a) (v .own) (and-left _ (ltb (v .b) (v .own)) (h .0)), (ltb-true (v .b) (v .own) (and-right (ltb (v .a) (v .own)) _ (h .0)), tt))
+or-lower v z h = let (ea, eb) = lower-both v (h .0) in (ltb-true (v .a) (v .own) ea, (ltb-true (v .b) (v .own) eb, tt))

@@ -10,17 +10,12 @@ use lib.ListN.{length-set}
 use Rattle.walk.proofs.Rooms.{tallied-deep, left-within}
 use Rattle.laying.proofs.Lays.{lent-most, lent-set, laid-deep, laid-none, laid-stops, laid-two, laid-tag}
 use Rattle.walk.proofs.Visit.{walk-deep, walk-cell, walk-word, walk-pass, walk-same, walk-tag, walk-two, visited, next-by}
-use Rattle.walk.proofs.Nodes.{items-of, in-plan, known, parts-in, words-some, raised-none, raised-zero}
-use Rattle.walk.proofs.kinds.Below.{below-items}
-use Rattle.walk.proofs.kinds.Nats.{nats-items}
-use Rattle.walk.proofs.kinds.Pool.{pool-items, pool-place}
-use Rattle.walk.proofs.kinds.Shift.{shift-small, shift-raised, shift-items}
-use Rattle.walk.proofs.kinds.Or.{or-lower, or-rule}
-use Rattle.walk.proofs.kinds.Cons.{cons-lower, cons-rule}
-use Rattle.walk.proofs.kinds.Dep.{choosing, dep-items, dep-low}
-use Rattle.walk.proofs.kinds.Except.{except-items}
-use Rattle.walk.proofs.kinds.Fix.{fix-items}
-use Rattle.walk.proofs.kinds.Again.{again-items}
+use Rattle.numbers.specs.Size.{endless}
+use Rattle.grammar.proofs.laws.{rules}
+use Rattle.grammar.proofs.laws.Pool.{pool-in, pool-at}
+use Rattle.grammar.proofs.laws.Shift.{shift-small, shift-bare}
+use Rattle.walk.proofs.Nodes.{in-plan, known, items-by, below-by, checked-by, parts-by, part-at, two-in, two-some, raised-none, raised-bare, raised-zero}
+use Rattle.walk.proofs.Choosing.{choosing, dep-items, dep-low}
 use Rattle.laying.proofs.Calls.{laid-by, lay-part, lay-shift, lay-tagged, lay-both}
 use Rattle.laying.proofs.lay.both.Reads as both
 use Rattle.laying.proofs.lay.both.Kinds as both-kinds
@@ -102,6 +97,7 @@ module _ (t : ℕ) where
       laid-tag _ _ (h .if1 .left) (h .before .before .pre .1 .1 .2) (c .before .before .lay .ensures) refl
 
 pub +both+lay+tagged-spec : {M : Type 1} → statement M
+unfolding rules
 +both+lay+tagged-spec = close μ-both μ-lay μ-tagged
     (λ t. both-lts.spec (lay-below t, lay.Post) (both-at t) both.Post
     (λ c κs. let at-pre = c .before .before in let p = at-pre .pre in (
@@ -155,91 +151,92 @@ pub +both+lay+tagged-spec : {M : Type 1} → statement M
     (λ c κs. let at-pre = c .before .before .before .before .before .before .before .before in at-pre .pre .1 .1 .3)
     (λ c. let at-pre = c .before .before .before .before .before .before .before in omega (arith, at-pre .pre .1 .1 .0, at-pre .pre .1 .1 .1))
     (λ c κs. let at-pre = c .before .before .before .before .before .before .before .before in at-pre .pre .1 .1 .3)
-    (λ c κs. let at-pre = c .before .before .before .before .before .before .before .before in pool-place (at-pre .pre .1 .0 .0) (c .before .match .keys3))
+    (λ c κs. let at-pre = c .before .before .before .before .before .before .before .before in let v = at-pre .pre .1 .0 .0 in
+    let k = c .before .match .keys3 in (omega (arith, below-by v k, checked-by (visited v) k pool-in .1), v .walks .slight))
     (λ c κs. let at-pre = c .before .before .before .before .before .before .before .before .before .before in at-pre .pre .1 .1 .3)
     (λ c. let at-pre = c .before .before .before .before .before .before .before in omega (
       arith,
       at-pre .pre .1 .1 .1,
-      shift-small
-          (visited (at-pre .pre .1 .0 .0)) (c .match .keys4),
+      checked-by (visited (at-pre .pre .1 .0 .0)) (c .match .keys4) shift-small,
     ))
     (λ c. let at-if1 = c .before .before .before .before .before in omega (arith, at-if1 .if1 .left))
     (λ c κs. let at-if1 = c .before .before .before .before .before .before in let at-pre = at-if1 .before .before in let v = at-pre .pre .1 .0 .0 in
     let k = c .before .match .keys4 in lay-shift _ (at-pre .pre .0) (at-if1 .if1 .left) (at-pre .pre .1 .1)
-    (next-by v (shift-items v k) .0) (shift-raised (visited v) k _) (shift-small (visited v) k))
-    (λ c κs. let at-pre = c .before .before .before .before .before .before .before in let v = visited (at-pre .pre .1 .0 .0) in parts-in v
-    (or-lower v (c .match .keys5)))
+    (next-by v (items-by v k refl) .0) (raised-bare (checked-by (visited v) k shift-bare)) (checked-by (visited v) k shift-small))
+    (λ c κs. let at-pre = c .before .before .before .before .before .before .before in let v = visited (at-pre .pre .1 .0 .0) in two-in v
+    (parts-by v (c .match .keys5)))
     (λ c. let at-if1 = c .before .before .before .before .before .before in omega (arith, at-if1 .if1 .left))
     (λ c κs. let at-match = c .before .before in let at-if1 = at-match .before .before .before .before .before in let at-pre = at-if1 .before .before in let
     v = at-pre .pre .1 .0 .0 in lay-tagged _ (at-pre .pre .0) (at-if1 .if1 .left) (at-pre .pre .1 .1)
-    (next-by v (items-of (or-rule (visited v) (at-match .match .keys5)) ∙ c .before .step2 .ensures) .0))
-    (λ c κs. let at-pre = c .before .before .before .before .before .before .before in let v = visited (at-pre .pre .1 .0 .0) in let l = cons-lower v
-    (c .match .keys6) in (parts-in v l, words-some v l))
+    (next-by v (items-by v (at-match .match .keys5) (c .before .step2 .ensures)) .0))
+    (λ c κs. let at-pre = c .before .before .before .before .before .before .before in let v = visited (at-pre .pre .1 .0 .0) in let l = parts-by v
+    (c .match .keys6) in (two-in v l, two-some v l))
     (λ c. let at-if1 = c .before .before .before .before .before .before in omega (arith, at-if1 .if1 .left))
     (λ c κs. let at-match = c .before .before in let at-if1 = at-match .before .before .before .before .before in let at-pre = at-if1 .before .before in let
-    v = at-pre .pre .1 .0 .0 in let n = next-by v (items-of (cons-rule (visited v) (at-match .match .keys6)) ∙ c .before .step3 .ensures) in
+    v = at-pre .pre .1 .0 .0 in let n = next-by v (items-by v (at-match .match .keys6) (c .before .step3 .ensures)) in
     lay-both _ (at-pre .pre .0) (at-if1 .if1 .left) (at-pre .pre .1 .1) (n .0) (n .1 .0))
     (λ c κs. let at-pre = c .before .before .before .before .before .before .before .before in let v = at-pre .pre .1 .0 .0 in
     ((choosing (visited v) (c .before .match .keys7) .words, v .walks .slight), dep-low v (c .before .match .keys7)))
     (λ c. let at-if1 = c .before .before .before .before .before .before .before in omega (arith, at-if1 .if1 .left))
     (λ c κs. let at-match = c .before .before .before in let at-if1 = at-match .before .before .before .before .before in let at-pre = at-if1 .before .before
-    in let v = at-pre .pre .1 .0 .0 in let n = next-by v (dep-items v (at-match .match .keys7) (c .before .step4 .ensures _)) in
+    in let v = at-pre .pre .1 .0 .0 in let n = next-by v (dep-items v (at-match .match .keys7) (c .before .step4 .ensures endless)) in
     lay-both _ (at-pre .pre .0) (at-if1 .if1 .left) (at-pre .pre .1 .1) (n .0) (n .1 .0))
     (λ c κs. let at-pre = c .before .before .before .before .before .before .before in omega (arith, at-pre .pre .1 .1 .0))
     (λ c. let at-if1 = c .before .before .before .before .before .before in omega (arith, at-if1 .if1 .left))
     (λ c κs. let at-match = c .before .before in let at-if1 = at-match .before .before .before .before .before in let at-pre = at-if1 .before .before in let
     v = at-pre .pre .1 .0 .0 in lay-part _ (at-pre .pre .0) (at-if1 .if1 .left) (at-pre .pre .1 .1) (next-by v
-    (except-items v (at-match .match .keys8) (c .before .split .ensures)) .0))
+    (items-by v (at-match .match .keys8) (part-at (c .before .split .ensures))) .0))
     (λ c. let at-if1 = c .before .before .before .before .before in omega (arith, at-if1 .if1 .left))
     (λ c κs. let at-if1 = c .before .before .before .before .before .before in let at-pre = at-if1 .before .before in let v = at-pre .pre .1 .0 .0 in lay-part
-    _ (at-pre .pre .0) (at-if1 .if1 .left) (at-pre .pre .1 .1) (next-by v (fix-items v (c .before .match .keys9)) .0))
+    _ (at-pre .pre .0) (at-if1 .if1 .left) (at-pre .pre .1 .1) (next-by v (items-by v (c .before .match .keys9) refl) .0))
     (λ c. let at-if1 = c .before .before .before .before .before in omega (arith, at-if1 .if1 .left))
     (λ c κs. let at-if1 = c .before .before .before .before .before .before in let at-pre = at-if1 .before .before in let v = at-pre .pre .1 .0 .0 in lay-part
-    _ (at-pre .pre .0) (at-if1 .if1 .left) (at-pre .pre .1 .1) (next-by v (again-items v (c .before .match .keys10)) .0))
+    _ (at-pre .pre .0) (at-if1 .if1 .left) (at-pre .pre .1 .1) (next-by v (items-by v (c .before .match .keys10) refl) .0))
     (λ c. let at-put = c .before .before in at-put .put .ensures .long)
     (λ c. let at-put = c .before .before in let at-match = at-put .before .before in let at-if1 = at-match .before .before .before .before .before in let
-    at-pre = at-if1 .before .before in laid-by (walk-cell _ _ _ _ (at-if1 .if1 .left) (below-items (at-pre .pre .1 .0 .0) (at-match .match .keys1)) refl)
+    at-pre = at-if1 .before .before in laid-by (walk-cell _ _ _ _ (at-if1 .if1 .left) (items-by (at-pre .pre .1 .0 .0) (at-match .match .keys1) refl) refl)
     (at-put .put .ensures))
     (λ c. let at-put2 = c .before .before in at-put2 .put2 .ensures .long)
     (λ c. let at-put2 = c .before .before in let at-match = at-put2 .before .before in let at-if1 = at-match .before .before .before .before .before in let
-    at-pre = at-if1 .before .before in laid-by (walk-cell _ _ _ _ (at-if1 .if1 .left) (nats-items (at-pre .pre .1 .0 .0) (at-match .match .keys2)) refl)
+    at-pre = at-if1 .before .before in laid-by (walk-cell _ _ _ _ (at-if1 .if1 .left) (items-by (at-pre .pre .1 .0 .0) (at-match .match .keys2) refl) refl)
     (at-put2 .put2 .ensures))
     (λ c. let at-put3 = c .before .before in at-put3 .put3 .ensures .long)
     (λ c. let at-put3 = c .before .before in let at-step = at-put3 .before .before in let at-match = at-step .before .before in
     let at-if1 = at-match .before .before .before .before .before in let at-pre = at-if1 .before .before in laid-by
-    (walk-word _ _ _ _ (at-if1 .if1 .left) (pool-items (at-pre .pre .1 .0 .0) (at-match .match .keys3) (at-step .step .ensures))
+    (walk-word _ _ _ _ (at-if1 .if1 .left) (let v = at-pre .pre .1 .0 .0 in let k = at-match .match .keys3 in
+    items-by v k (pool-at _ _ _ _ (checked-by (visited v) k pool-in .1) (below-by v k) (at-step .step .ensures)))
     (raised-none (at-pre .pre .1 .0 .1) (at-match .match .keys3) refl)) (at-put3 .put3 .ensures))
     (λ c. let at-lay = c .before .before in at-lay .lay .ensures .long)
     (λ c. let at-lay = c .before .before in let at-match = at-lay .before .before in let at-if1 = at-match .before .before .before .before .before in let
-    at-pre = at-if1 .before .before in laid-by (walk-pass _ _ _ _ (at-if1 .if1 .left) (shift-items (at-pre .pre .1 .0 .0) (at-match .match .keys4)) refl)
+    at-pre = at-if1 .before .before in laid-by (walk-pass _ _ _ _ (at-if1 .if1 .left) (items-by (at-pre .pre .1 .0 .0) (at-match .match .keys4) refl) refl)
     (at-lay .lay .ensures))
     (λ c. let at-tagged = c .before .before in at-tagged .tagged .ensures .long)
     (λ c. let at-tagged = c .before .before in let at-step2 = at-tagged .before .before in let at-match = at-step2 .before in
     let at-if1 = at-match .before .before .before .before .before in let at-pre = at-if1 .before .before in laid-by
-    (walk-tag _ _ _ _ (at-if1 .if1 .left) (items-of (or-rule (visited (at-pre .pre .1 .0 .0)) (at-match .match .keys5)) ∙ at-step2 .step2 .ensures)
+    (walk-tag _ _ _ _ (at-if1 .if1 .left) (items-by (at-pre .pre .1 .0 .0) (at-match .match .keys5) (at-step2 .step2 .ensures))
     (raised-none (at-pre .pre .1 .0 .1) (at-match .match .keys5) refl)) (at-tagged .tagged .ensures))
     (λ c. let at-both = c .before .before in at-both .both .ensures .long)
     (λ c. let at-both = c .before .before in let at-step3 = at-both .before .before in let at-match = at-step3 .before in
     let at-if1 = at-match .before .before .before .before .before in let at-pre = at-if1 .before .before in laid-by
-    (walk-two _ _ _ _ (at-if1 .if1 .left) (items-of (cons-rule (visited (at-pre .pre .1 .0 .0)) (at-match .match .keys6)) ∙ at-step3 .step3 .ensures)
+    (walk-two _ _ _ _ (at-if1 .if1 .left) (items-by (at-pre .pre .1 .0 .0) (at-match .match .keys6) (at-step3 .step3 .ensures))
     (raised-none (at-pre .pre .1 .0 .1) (at-match .match .keys6) refl)) (at-both .both .ensures))
     (λ c. let at-both2 = c .before .before in at-both2 .both2 .ensures .long)
     (λ c. let at-both2 = c .before .before in let at-step4 = at-both2 .before .before in let at-match = at-step4 .before .before in
     let at-if1 = at-match .before .before .before .before .before in let at-pre = at-if1 .before .before in laid-by
-    (walk-two _ _ _ _ (at-if1 .if1 .left) (dep-items (at-pre .pre .1 .0 .0) (at-match .match .keys7) (at-step4 .step4 .ensures _))
+    (walk-two _ _ _ _ (at-if1 .if1 .left) (dep-items (at-pre .pre .1 .0 .0) (at-match .match .keys7) (at-step4 .step4 .ensures endless))
     (raised-none (at-pre .pre .1 .0 .1) (at-match .match .keys7) refl)) (at-both2 .both2 .ensures))
     (λ c. let at-lay2 = c .before .before in at-lay2 .lay2 .ensures .long)
     (λ c. let at-lay2 = c .before .before in let at-split = at-lay2 .before .before in let at-match = at-split .before in
     let at-if1 = at-match .before .before .before .before .before in let at-pre = at-if1 .before .before in laid-by
-    (walk-same _ _ _ _ (at-if1 .if1 .left) (except-items (at-pre .pre .1 .0 .0) (at-match .match .keys8) (at-split .split .ensures))
+    (walk-same _ _ _ _ (at-if1 .if1 .left) (items-by (at-pre .pre .1 .0 .0) (at-match .match .keys8) (part-at (at-split .split .ensures)))
     (raised-none (at-pre .pre .1 .0 .1) (at-match .match .keys8) refl)) (at-lay2 .lay2 .ensures))
     (λ c. let at-lay3 = c .before .before in at-lay3 .lay3 .ensures .long)
     (λ c. let at-lay3 = c .before .before in let at-match = at-lay3 .before .before in let at-if1 = at-match .before .before .before .before .before in let
-    at-pre = at-if1 .before .before in laid-by (walk-same _ _ _ _ (at-if1 .if1 .left) (fix-items (at-pre .pre .1 .0 .0) (at-match .match .keys9))
+    at-pre = at-if1 .before .before in laid-by (walk-same _ _ _ _ (at-if1 .if1 .left) (items-by (at-pre .pre .1 .0 .0) (at-match .match .keys9) refl)
     (raised-none (at-pre .pre .1 .0 .1) (at-match .match .keys9) refl)) (at-lay3 .lay3 .ensures))
     (λ c. let at-lay4 = c .before .before in at-lay4 .lay4 .ensures .long)
     (λ c. let at-lay4 = c .before .before in let at-match = at-lay4 .before .before in let at-if1 = at-match .before .before .before .before .before in let
-    at-pre = at-if1 .before .before in laid-by (walk-same _ _ _ _ (at-if1 .if1 .left) (again-items (at-pre .pre .1 .0 .0) (at-match .match .keys10))
+    at-pre = at-if1 .before .before in laid-by (walk-same _ _ _ _ (at-if1 .if1 .left) (items-by (at-pre .pre .1 .0 .0) (at-match .match .keys10) refl)
     (raised-none (at-pre .pre .1 .0 .1) (at-match .match .keys10) refl)) (at-lay4 .lay4 .ensures))
     (λ c. let at-pre = c .before .before .before .before .before .before .before in absurd (known (visited (at-pre .pre .1 .0 .0)) (c .match .rest))))
     (λ t. tagged-lts.spec (lay-below t, lay.Post) (tagged-at t) tagged.Post

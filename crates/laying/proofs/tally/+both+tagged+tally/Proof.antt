@@ -8,17 +8,10 @@ use borrow.Fn.Kinds.{In}
 use borrow.Fn.PlainCycle.{Measures, is, falls, and}
 use Rattle.walk.proofs.Rooms.{tallied-deep, tallied-full, tallied-cell, left-within, two-stops, two-left}
 use Rattle.walk.proofs.Visit.{walk-deep, walk-cell, walk-pass, walk-tag, walk-two, visited, next-by}
-use Rattle.walk.proofs.Nodes.{items-of, in-plan, known, parts-in, words-some}
-use Rattle.walk.proofs.kinds.Below.{below-items}
-use Rattle.walk.proofs.kinds.Nats.{nats-items}
-use Rattle.walk.proofs.kinds.Pool.{pool-items}
-use Rattle.walk.proofs.kinds.Shift.{shift-items}
-use Rattle.walk.proofs.kinds.Or.{or-lower, or-rule}
-use Rattle.walk.proofs.kinds.Cons.{cons-lower, cons-rule}
-use Rattle.walk.proofs.kinds.Dep.{choosing, dep-items, dep-low}
-use Rattle.walk.proofs.kinds.Except.{except-items}
-use Rattle.walk.proofs.kinds.Fix.{fix-items}
-use Rattle.walk.proofs.kinds.Again.{again-items}
+use Rattle.numbers.specs.Size.{endless}
+use Rattle.grammar.proofs.laws.{rules}
+use Rattle.walk.proofs.Nodes.{in-plan, known, items-by, parts-by, part-at, two-in, two-some}
+use Rattle.walk.proofs.Choosing.{choosing, dep-items, dep-low}
 use Rattle.laying.proofs.Calls.{tally-by, tally-any, tally-up, tally-part, tally-tagged, tally-both}
 use Rattle.laying.proofs.tally.both.Reads as both
 use Rattle.laying.proofs.tally.both.Kinds as both-kinds
@@ -86,6 +79,7 @@ module _ (t : ℕ) where
   )
 
 pub +both+tagged+tally-spec : {M : Type 1} → statement M
+unfolding rules
 +both+tagged+tally-spec = close μ-both μ-tagged μ-tally
     (λ t. both-lts.spec (tally-below t, tally.Post) (both-at t) both.Post
     (λ c κs. let p = c .pre in (omega (arith, p .0), (p .1 .0 .0, (p .1 .1 .0, p .1 .1 .2, p .1 .1 .3))))
@@ -116,17 +110,17 @@ pub +both+tagged+tally-spec : {M : Type 1} → statement M
     (λ c κs. let at-pre = c .before .before .before .before .before .before in at-pre .pre .1 .1 .2)
     (λ c. let at-if1 = c .before .before .before .before .before in omega (arith, at-if1 .if1 .left))
     (λ c κs. let at-if1 = c .before .before .before .before .before in let at-pre = at-if1 .before in tally-part (at-pre .pre .0) (at-if1 .if1 .left)
-    (at-pre .pre .1 .1) (next-by (at-pre .pre .1 .0) (shift-items (at-pre .pre .1 .0) (c .match .keys4)) .0))
-    (λ c κs. let at-pre = c .before .before .before .before .before .before in let v = visited (at-pre .pre .1 .0) in parts-in v (or-lower v (c .match .keys5)))
+    (at-pre .pre .1 .1) (next-by (at-pre .pre .1 .0) (items-by (at-pre .pre .1 .0) (c .match .keys4) refl) .0))
+    (λ c κs. let at-pre = c .before .before .before .before .before .before in let v = visited (at-pre .pre .1 .0) in two-in v (parts-by v (c .match .keys5)))
     (λ c. let at-if1 = c .before .before .before .before .before .before in omega (arith, at-if1 .if1 .left))
     (λ c κs. let at-if1 = c .before .before .before .before .before .before in let at-pre = at-if1 .before in tally-tagged (at-pre .pre .0)
     (at-if1 .if1 .left) (at-pre .pre .1 .1)
-    (next-by (at-pre .pre .1 .0) (items-of (or-rule (visited (at-pre .pre .1 .0)) (c .before .match .keys5)) ∙ c .step .ensures) .0))
-    (λ c κs. let at-pre = c .before .before .before .before .before .before in let v = visited (at-pre .pre .1 .0) in let l = cons-lower v (c .match .keys6)
-    in (parts-in v l, words-some v l))
+    (next-by (at-pre .pre .1 .0) (items-by (at-pre .pre .1 .0) (c .before .match .keys5) (c .step .ensures)) .0))
+    (λ c κs. let at-pre = c .before .before .before .before .before .before in let v = visited (at-pre .pre .1 .0) in let l = parts-by v (c .match .keys6)
+    in (two-in v l, two-some v l))
     (λ c. let at-if1 = c .before .before .before .before .before .before in omega (arith, at-if1 .if1 .left))
     (λ c κs. let at-if1 = c .before .before .before .before .before .before in let at-pre = at-if1 .before in let n = next-by (at-pre .pre .1 .0)
-    (items-of (cons-rule (visited (at-pre .pre .1 .0)) (c .before .match .keys6)) ∙ c .step2 .ensures) in
+    (items-by (at-pre .pre .1 .0) (c .before .match .keys6) (c .step2 .ensures)) in
     tally-both (at-pre .pre .0) (at-if1 .if1 .left) (at-pre .pre .1 .1) (n .0) (n .1 .0))
     (λ c κs. let at-pre = c .before .before .before .before .before .before .before in (
       (
@@ -138,38 +132,38 @@ pub +both+tagged+tally-spec : {M : Type 1} → statement M
     ))
     (λ c. let at-if1 = c .before .before .before .before .before .before .before in omega (arith, at-if1 .if1 .left))
     (λ c κs. let at-match = c .before .before in let at-if1 = at-match .before .before .before .before .before in let at-pre = at-if1 .before in
-    let n = next-by (at-pre .pre .1 .0) (dep-items (at-pre .pre .1 .0) (at-match .match .keys7) (c .step3 .ensures _)) in
+    let n = next-by (at-pre .pre .1 .0) (dep-items (at-pre .pre .1 .0) (at-match .match .keys7) (c .step3 .ensures endless)) in
     tally-both (at-pre .pre .0) (at-if1 .if1 .left) (at-pre .pre .1 .1) (n .0) (n .1 .0))
     (λ c κs. let at-pre = c .before .before .before .before .before .before in omega (arith, at-pre .pre .1 .1 .0))
     (λ c. let at-if1 = c .before .before .before .before .before .before in omega (arith, at-if1 .if1 .left))
     (λ c κs. let at-if1 = c .before .before .before .before .before .before in let at-pre = at-if1 .before in tally-part (at-pre .pre .0) (at-if1 .if1 .left)
-    (at-pre .pre .1 .1) (next-by (at-pre .pre .1 .0) (except-items (at-pre .pre .1 .0) (c .before .match .keys8) (c .split .ensures)) .0))
+    (at-pre .pre .1 .1) (next-by (at-pre .pre .1 .0) (items-by (at-pre .pre .1 .0) (c .before .match .keys8) (part-at (c .split .ensures))) .0))
     (λ c. let at-if1 = c .before .before .before .before .before in omega (arith, at-if1 .if1 .left))
     (λ c κs. let at-if1 = c .before .before .before .before .before in let at-pre = at-if1 .before in tally-part (at-pre .pre .0) (at-if1 .if1 .left)
-    (at-pre .pre .1 .1) (next-by (at-pre .pre .1 .0) (fix-items (at-pre .pre .1 .0) (c .match .keys9)) .0))
+    (at-pre .pre .1 .1) (next-by (at-pre .pre .1 .0) (items-by (at-pre .pre .1 .0) (c .match .keys9) refl) .0))
     (λ c. let at-if1 = c .before .before .before .before .before in omega (arith, at-if1 .if1 .left))
     (λ c κs. let at-if1 = c .before .before .before .before .before in let at-pre = at-if1 .before in tally-part (at-pre .pre .0) (at-if1 .if1 .left)
-    (at-pre .pre .1 .1) (next-by (at-pre .pre .1 .0) (again-items (at-pre .pre .1 .0) (c .match .keys10)) .0))
+    (at-pre .pre .1 .1) (next-by (at-pre .pre .1 .0) (items-by (at-pre .pre .1 .0) (c .match .keys10) refl) .0))
     (λ c. let at-if1 = c .before .before .before .before .before .before in let at-pre = at-if1 .before in tally-any _
-    (walk-cell _ _ _ _ (at-if1 .if1 .left) (below-items (at-pre .pre .1 .0) (c .before .match .keys1)) refl) (c .one .ensures))
+    (walk-cell _ _ _ _ (at-if1 .if1 .left) (items-by (at-pre .pre .1 .0) (c .before .match .keys1) refl) refl) (c .one .ensures))
     (λ c. let at-if1 = c .before .before .before .before .before .before in let at-pre = at-if1 .before in tally-any _
-    (walk-cell _ _ _ _ (at-if1 .if1 .left) (nats-items (at-pre .pre .1 .0) (c .before .match .keys2)) refl) (c .one2 .ensures))
+    (walk-cell _ _ _ _ (at-if1 .if1 .left) (items-by (at-pre .pre .1 .0) (c .before .match .keys2) refl) refl) (c .one2 .ensures))
     (λ c. let at-if1 = c .before .before .before .before .before .before in let at-pre = at-if1 .before in tally-any _
-    (walk-cell _ _ _ _ (at-if1 .if1 .left) (pool-items (at-pre .pre .1 .0) (c .before .match .keys3) refl) refl) (c .one3 .ensures))
+    (walk-cell _ _ _ _ (at-if1 .if1 .left) (items-by (at-pre .pre .1 .0) (c .before .match .keys3) refl) refl) (c .one3 .ensures))
     (λ c. let at-if1 = c .before .before .before .before .before .before in let at-pre = at-if1 .before in tally-up _ _ _ _ _ _
-    (walk-pass _ _ _ _ (at-if1 .if1 .left) (shift-items (at-pre .pre .1 .0) (c .before .match .keys4)) refl) (c .tally .ensures))
+    (walk-pass _ _ _ _ (at-if1 .if1 .left) (items-by (at-pre .pre .1 .0) (c .before .match .keys4) refl) refl) (c .tally .ensures))
     (λ c. let at-match = c .before .before in let at-if1 = at-match .before .before .before .before .before in let at-pre = at-if1 .before in tally-any _
-    (walk-tag _ _ _ _ (at-if1 .if1 .left) (items-of (or-rule (visited (at-pre .pre .1 .0)) (at-match .match .keys5)) ∙ c .before .step .ensures) refl)
+    (walk-tag _ _ _ _ (at-if1 .if1 .left) (items-by (at-pre .pre .1 .0) (at-match .match .keys5) (c .before .step .ensures)) refl)
     (c .tagged .ensures))
     (λ c. let at-match = c .before .before in let at-if1 = at-match .before .before .before .before .before in let at-pre = at-if1 .before in tally-by _
-    (walk-two _ _ _ _ (at-if1 .if1 .left) (items-of (cons-rule (visited (at-pre .pre .1 .0)) (at-match .match .keys6)) ∙ c .before .step2 .ensures) refl)
+    (walk-two _ _ _ _ (at-if1 .if1 .left) (items-by (at-pre .pre .1 .0) (at-match .match .keys6) (c .before .step2 .ensures)) refl)
     (c .both .ensures))
     (λ c. let at-match = c .before .before .before in let at-if1 = at-match .before .before .before .before .before in let at-pre = at-if1 .before in tally-by
-    _ (walk-two _ _ _ _ (at-if1 .if1 .left) (dep-items (at-pre .pre .1 .0) (at-match .match .keys7) (c .before .step3 .ensures _)) refl) (c .both2 .ensures))
+    _ (walk-two _ _ _ _ (at-if1 .if1 .left) (dep-items (at-pre .pre .1 .0) (at-match .match .keys7) (c .before .step3 .ensures endless)) refl) (c .both2 .ensures))
     (λ c. let at-match = c .before .before in let at-if1 = at-match .before .before .before .before .before in let at-pre = at-if1 .before in tally-by _
-    (walk-pass _ _ _ _ (at-if1 .if1 .left) (except-items (at-pre .pre .1 .0) (at-match .match .keys8) (c .before .split .ensures)) refl) (c .tally2 .ensures))
+    (walk-pass _ _ _ _ (at-if1 .if1 .left) (items-by (at-pre .pre .1 .0) (at-match .match .keys8) (part-at (c .before .split .ensures))) refl) (c .tally2 .ensures))
     (λ c. let at-if1 = c .before .before .before .before .before .before in let at-pre = at-if1 .before in tally-by _
-    (walk-pass _ _ _ _ (at-if1 .if1 .left) (fix-items (at-pre .pre .1 .0) (c .before .match .keys9)) refl) (c .tally3 .ensures))
+    (walk-pass _ _ _ _ (at-if1 .if1 .left) (items-by (at-pre .pre .1 .0) (c .before .match .keys9) refl) refl) (c .tally3 .ensures))
     (λ c. let at-if1 = c .before .before .before .before .before .before in let at-pre = at-if1 .before in tally-by _
-    (walk-pass _ _ _ _ (at-if1 .if1 .left) (again-items (at-pre .pre .1 .0) (c .before .match .keys10)) refl) (c .tally4 .ensures))
+    (walk-pass _ _ _ _ (at-if1 .if1 .left) (items-by (at-pre .pre .1 .0) (c .before .match .keys10) refl) refl) (c .tally4 .ensures))
     (λ c. let at-pre = c .before .before .before .before .before .before in absurd (known (visited (at-pre .pre .1 .0)) (c .match .rest))))

@@ -1,6 +1,6 @@
--- A dep of a plan: its seconds, as `grammar::kinds::dep` and the walks need them, and its rule by the plan's sizes.
+-- A dep of a plan: its seconds, as `grammar::kinds::dep` and the walks need them, and its rule by them.
 --   choosing    what is known of its first part and of its seconds
---   dep-by      a dep's rule, by its seconds; dep-rule the rule of such a node
+--   dep-by      a dep's rule, by its seconds
 --   first-of, second-of, second-place, dep-least   of the second that number x of the first part chooses
 --   dep-items, dep-low   its items, and that the first part's number is below its size
 -- Assumes nothing.
@@ -10,9 +10,8 @@ use mathlib.Core.List.{List}
 use Prim.Native.Nat.{ℕ, _+_, _^_, _≤_, _<_}
 use native.Mathlib.Nat.{add-zero}
 use native.Mathlib.Omega.{arith}
-use lib.Dec.{ltb}
 use lib.ListN.{length, getD, take, drop}
-use borrow.Author.Tests.{leb-true}
+use borrow.Author.Tests.{ltb-true, leb-true}
 use Rattle.numbers.specs.Size.{Size, finite, endless, Below, sizeOf}
 use Rattle.numbers.specs.Dep
 use Rattle.numbers.proofs.size.Laws.{by-size}
@@ -20,7 +19,7 @@ use Rattle.numbers.proofs.dep.Laws as Deps
 use Rattle.grammar.specs.Rule.{Item}
 use Rattle.grammar.specs.Checks.{few, fits, isEndless, allFinite, allEndless, allLower, total}
 use Rattle.grammar.specs.Checks.{count as countOf}
-use Rattle.grammar.specs.Plan.{sizeIn, kindWord, aWord, bWord, ruleIn}
+use Rattle.grammar.specs.Plan.{sizeIn, kindWord, aWord, bWord, nodeIn, ruleIn}
 use Rattle.grammar.specs.Seconds.{firsts, headSize, DepIn}
 use Rattle.grammar.specs.kinds.Dep.{secondsOf, depRule}
 use Rattle.grammar.specs.kinds.Dep.{dep as depKind}
@@ -28,10 +27,10 @@ use Rattle.grammar.proofs.Tests.{finite-word, endless-word}
 use Rattle.grammar.proofs.Stepping.{few-word}
 use Rattle.grammar.proofs.Runs.{run-long, run-at, run-fails, lower-run, finite-run}
 use Rattle.grammar.proofs.Seconds.{seconds-firsts, seconds-second, finite-total, else-finite, else-endless}
-use Rattle.grammar.proofs.laws.Dep.{total-before, seconds-before, alike-before}
+use Rattle.grammar.proofs.laws.Dep.{Shown, shows}
 use Rattle.walk.specs.Plan.{Reading, Visits, Choosing}
 use Rattle.walk.proofs.Visit.{visited, next-by}
-use Rattle.walk.proofs.Nodes.{some-word, checks-by, reads-lower, rule-by, items-of}
+use Rattle.walk.proofs.Nodes.{some-word, checks-by, reads-at, items-by, items-of}
 
 -- ---- by its checks
 module _ {plan p : List ℕ} {i : ℕ} (r : Reading plan p i) (e : kindWord plan i ≡ 6) where
@@ -53,29 +52,29 @@ module _ {plan p : List ℕ} {i : ℕ} (r : Reading plan p i) (e : kindWord plan
   abbrev cs : List ℕ
   cs = take m (drop b p)
 
-  pub dep-lower : ltb a i ≡ true
-  dep-lower = checks-by r e .0
+  shown : Shown (nodeIn plan p (r .walks .count) i) z
+  shown = shows _ z (checks-by r e)
 
-  small : few (z a) ≡ true
-  small = rw dep-lower at (checks-by r e .1 .0)
+  first-in : a < r .walks .count
+  first-in = omega (arith, r .node, ltb-true a i (shown .low))
 
   count-is : countOf (z a) ≡ m
-  count-is = few-word m small
+  count-is = few-word m (shown .small)
 
   in-pool : b + m ≤ length p
-  in-pool = rw count-is at (leb-true (b + countOf (z a)) (length p) (rw dep-lower at (checks-by r e .1 .1 .0)))
+  in-pool = rw count-is at (shown .inside)
 
   lower : allLower i cs ≡ true
-  lower = rw count-is at (rw dep-lower at (checks-by r e .1 .1 .1 .0))
+  lower = rw count-is at (shown .lower)
 
   alike : (allFinite z cs || allEndless z cs) ≡ true
-  alike = sym (alike-before z i cs lower) ∙ rw count-is at (rw dep-lower at (checks-by r e .1 .1 .1 .1 .0))
+  alike = rw count-is at (shown .alike)
 
   fitting : fits (total z cs) ≡ true
-  fitting = ap fits (sym (total-before z i cs lower)) ∙ rw count-is at (rw dep-lower at (checks-by r e .1 .1 .1 .1 .1 .0))
+  fitting = rw count-is at (shown .fitting)
 
   some : 0 < m
-  some = some-word m (r .walks .some a (reads-lower r a dep-lower .node))
+  some = some-word m (r .walks .some a first-in)
 
   second-in : (j : ℕ) → j < m → getD p (b + j) 0 < r .walks .count
   second-in j l = omega (arith, r .node, lower-run i p b m in-pool lower j l)
@@ -94,7 +93,7 @@ module _ {plan p : List ℕ} {i : ℕ} (r : Reading plan p i) (e : kindWord plan
 
   words : DepIn plan p a b
   words = record {
-    first = omega (arith, reads-lower r a dep-lower .node, r .walks .long);
+    first = omega (arith, first-in, r .walks .long);
     some = some;
     counted = count-is;
     inside = in-pool;
@@ -107,16 +106,11 @@ module _ {plan p : List ℕ} {i : ℕ} (r : Reading plan p i) (e : kindWord plan
   pub choosing : Choosing plan p a b
   choosing = record {
     words = words;
-    first = reads-lower r a dep-lower;
-    few = few-first m small;
+    first = reads-at r a first-in;
+    few = few-first m (shown .small);
     alike = alike;
-    seconds = λ x l. record { walks = r .walks; node = second-in x l };
+    seconds = λ x l. reads-at r (getD p (b + x) 0) (second-in x l);
   }
-
-  seconds-rule : ruleIn plan p i ≡ depRule (total z cs) (secondsOf z cs) a cs
-  seconds-rule =
-      let h = rw count-is at (rw dep-lower at (rule-by plan p i e)) in
-      rw (total-before z i cs lower, seconds-before z i cs lower) at h
 
 -- ---- by the words a and b of a dep
 module _ {plan p : List ℕ} {a b : ℕ} (d : Choosing plan p a b) where
@@ -153,10 +147,6 @@ module _ {plan p : List ℕ} {a b : ℕ} (d : Choosing plan p a b) where
         rw (seconds-second (sizeIn plan) seconds (d .alike) many k c, run-at p b (firsts plan a) (d .words .inside) k o)
         (n .walks .some (getD p (b + k) 0) (n .node)))
 
-pub dep-rule : {plan p : List ℕ} {i : ℕ} → Reading plan p i → kindWord plan i ≡ 6
-    → ruleIn plan p i ≡ depKind .rule (aWord plan i) (bWord plan i) p (sizeIn plan)
-dep-rule r k = seconds-rule r k ∙ sym (dep-by (choosing r k))
-
 -- ---- a visit
 module _ {plan p : List ℕ} {i n : ℕ} (v : Visits plan p i n) (k : kindWord plan i ≡ 6) where
   abbrev chosen : List ℕ
@@ -164,7 +154,7 @@ module _ {plan p : List ℕ} {i n : ℕ} (v : Visits plan p i n) (k : kindWord p
 
   pub dep-items : {is : List Item} → depRule (total (sizeIn plan) chosen) (secondsOf (sizeIn plan) chosen) (aWord plan i) chosen .items n ≡ is
       → ruleIn plan p i .items n ≡ is
-  dep-items e = items-of (seconds-rule (visited v) k) ∙ e
+  dep-items e = items-by v k (items-of (dep-by (choosing (visited v) k)) ∙ e)
 
   -- the first part's number is below its size
   pub dep-low : Dep.split (secondsOf (sizeIn plan) chosen) n .first < firsts plan (aWord plan i)
