@@ -43,16 +43,7 @@ pub fn skips(kind: u64) -> bool
     ensures { λ r. ⌜ ((a b : ℕ) (p : List ℕ) (z : ℕ → Size) → r ≡ kindIn kind .rule a b p z .skips) ⌝ }
 {
     match kind {
-        kinds::BELOW => false,
-        kinds::NATS => false,
-        kinds::POOL => false,
-        kinds::SHIFT => false,
-        kinds::OR => false,
-        kinds::CONS => false,
-        kinds::DEP => false,
         kinds::EXCEPT => true,
-        kinds::FIX => false,
-        kinds::AGAIN => false,
         _ => false,
     }
 }

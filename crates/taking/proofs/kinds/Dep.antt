@@ -22,7 +22,7 @@ use Rattle.walk.specs.Run.{Read, follow, run}
 use Rattle.walk.specs.Plan.{Choosing}
 use Rattle.walk.proofs.Only.{only}
 use Rattle.walk.proofs.Nodes.{tree-of}
-use Rattle.walk.proofs.kinds.Dep.{dep-by, first-of, second-of, dep-least}
+use Rattle.walk.proofs.Choosing.{dep-by, first-of, second-of, dep-least}
 use Rattle.taking.specs.Took.{Taken, TakenBy}
 use Rattle.taking.proofs.Cells.{seen-row}
 use Rattle.taking.proofs.Takes.{part-stops, two-stays, two-number}

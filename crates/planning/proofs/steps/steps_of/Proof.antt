@@ -2,11 +2,13 @@
 -- Assumes nothing.
 use borrow.Author.Needs.{needs}
 use native.Mathlib.Omega.{arith}
-use Rattle.planning.proofs.KindSteps.{names-as, below-steps, nats-steps, pool-steps, shift-steps, or-steps, cons-steps, dep-first, dep-count, dep-run, dep-steps, except-steps, fix-steps, again-steps, unknown-steps}
+use Rattle.grammar.proofs.laws.{rules}
+use Rattle.planning.proofs.KindSteps.{names-as, steps-by, unknown-steps, dep-first, dep-count, dep-run, dep-steps}
 use Rattle.planning.proofs.steps.steps_of.Statement.{statement}
 use Rattle.planning.proofs.steps.steps_of.Tie as tie
 
 pub steps-of-spec : {M : Type 1} → statement M
+unfolding rules
 steps-of-spec =
     tie.close
     (tie.spec
@@ -33,16 +35,16 @@ steps-of-spec =
     (λ c κs. search needs)
     (λ c κs. search needs)
     (λ c κs. search needs)
-    (λ c. names-as (below-steps _ _ _ _ _ (c .before .match .keys1)) (c .none .ensures _))
-    (λ c. names-as (nats-steps _ _ _ _ _ (c .before .match .keys2)) (c .none2 .ensures _))
-    (λ c. names-as (pool-steps _ _ _ _ _ (c .before .match .keys3)) (c .none3 .ensures _))
-    (λ c. names-as (shift-steps _ _ _ _ _ (c .before .match .keys4)) (c .one .ensures _))
-    (λ c. names-as (or-steps _ _ _ _ _ (c .before .match .keys5)) (c .steps .ensures _))
-    (λ c. names-as (cons-steps _ _ _ _ _ (c .before .match .keys6)) (c .two .ensures _))
+    (λ c. names-as (steps-by _ _ _ _ _ (c .before .match .keys1)) (c .none .ensures _))
+    (λ c. names-as (steps-by _ _ _ _ _ (c .before .match .keys2)) (c .none2 .ensures _))
+    (λ c. names-as (steps-by _ _ _ _ _ (c .before .match .keys3)) (c .none3 .ensures _))
+    (λ c. names-as (steps-by _ _ _ _ _ (c .before .match .keys4)) (c .one .ensures _))
+    (λ c. names-as (steps-by _ _ _ _ _ (c .before .match .keys5)) (c .steps .ensures _))
+    (λ c. names-as (steps-by _ _ _ _ _ (c .before .match .keys6)) (c .two .ensures _))
     (λ c. let r = c .before .before .before .before .before .before .before .before .pre .0 in
     let h = c .before .before .before .before .before .before .before .before .pre .1 in let e = c .before .match .keys7 in names-as (dep-steps r h e _)
     (c .steps2 .ensures _ (dep-run r h e) (dep-count r h e)))
-    (λ c. names-as (except-steps _ _ _ _ _ (c .before .match .keys8)) (c .one2 .ensures _))
-    (λ c. names-as (fix-steps _ _ _ _ _ (c .before .match .keys9)) (c .one3 .ensures _))
-    (λ c. names-as (again-steps _ _ _ _ _ (c .before .match .keys10)) (c .one4 .ensures _))
+    (λ c. names-as (steps-by _ _ _ _ _ (c .before .match .keys8)) (c .one2 .ensures _))
+    (λ c. names-as (steps-by _ _ _ _ _ (c .before .match .keys9)) (c .one3 .ensures _))
+    (λ c. names-as (steps-by _ _ _ _ _ (c .before .match .keys10)) (c .one4 .ensures _))
     (λ c. names-as (unknown-steps _ _ _ _ _ (c .before .match .rest)) (c .none4 .ensures _)))

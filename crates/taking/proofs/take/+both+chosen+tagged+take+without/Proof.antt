@@ -9,17 +9,13 @@ use native.Mathlib.Omega.{arith}
 use borrow.Fn.Kinds.{In}
 use borrow.Fn.PlainCycle.{Measures, is, falls, and}
 use Rattle.graph.proofs.Marks.{le-or-lt}
-use Rattle.walk.proofs.Nodes.{tree-of, in-plan, reads-in, known, both-reads, reads-lower}
-use Rattle.walk.proofs.kinds.Below.{below-rule, below-most}
-use Rattle.walk.proofs.kinds.Nats.{nats-rule}
-use Rattle.walk.proofs.kinds.Pool.{pool-rule, pool-in}
-use Rattle.walk.proofs.kinds.Shift.{shift-lower, shift-small, shift-tree}
-use Rattle.walk.proofs.kinds.Or.{or-lower, or-rule}
-use Rattle.walk.proofs.kinds.Cons.{cons-lower, cons-rule}
-use Rattle.walk.proofs.kinds.Dep.{choosing, dep-rule, second-place}
-use Rattle.walk.proofs.kinds.Except.{except-lower, except-small, except-rule}
-use Rattle.walk.proofs.kinds.Fix.{fix-reads, fix-tree}
-use Rattle.walk.proofs.kinds.Again.{again-reads, again-tree}
+use Rattle.grammar.proofs.laws.{rules}
+use Rattle.grammar.proofs.laws.Below.{below-most}
+use Rattle.grammar.proofs.laws.Pool.{pool-in}
+use Rattle.grammar.proofs.laws.Shift.{shift-small}
+use Rattle.grammar.proofs.laws.Except.{except-small}
+use Rattle.walk.proofs.Nodes.{in-plan, reads-in, known, tree-by, parts-by, checked-by, reads-one, reads-two}
+use Rattle.walk.proofs.Choosing.{choosing, second-place}
 use Rattle.taking.proofs.Calls.{part-first, part-next, visit-part, visit-shift, visit-shape, visit-tagged}
 use Rattle.taking.proofs.Takes.{deep-taken, tree-taken, pass-taken}
 use Rattle.taking.proofs.kinds.Or.{tag-inside, or-stops, first-stays, first-number, second-stays, second-number}
@@ -118,6 +114,7 @@ module _ (t : ℕ) where
   )
 
 pub +both+chosen+tagged+take+without-spec : {M : Type 1} → statement M
+unfolding rules
 +both+chosen+tagged+take+without-spec = close μ-both μ-chosen μ-tagged μ-take μ-without
     (λ t. both-lts.spec (take-below t, take.Post, cons-join.Asked, cons-join.Learnt) (both-at t) both.Post
     (λ c κs. part-first (c .before .pre .0) _ _ (c .before .pre .1 .1) (c .before .pre .1 .0 .0))
@@ -190,67 +187,74 @@ pub +both+chosen+tagged+take+without-spec : {M : Type 1} → statement M
     (λ c. let at-pre = c .before .before .before .before in let q = in-plan (at-pre .pre .1 .0) in omega (arith, q .0, q .1))
     (λ c. let at-pre = c .before .before .before .before .before in let q = in-plan (at-pre .pre .1 .0) in omega (arith, q .0, q .1))
     (λ c κs. let at-pre = c .before .before .before .before .before .before .before in (
-      below-most (at-pre .pre .1 .0) (c .before .match .keys1),
+      checked-by (at-pre .pre .1 .0) (c .before .match .keys1) below-most,
       at-pre .pre .1 .1 .2,
       at-pre .pre .1 .1 .3,
     ))
     (λ c κs. let at-pre = c .before .before .before .before .before .before .before in (at-pre .pre .1 .1 .2, at-pre .pre .1 .1 .3))
     (λ c κs. let at-pre = c .before .before .before .before .before .before .before in (
-      pool-in (at-pre .pre .1 .0) (c .before .match .keys3),
+      (
+        checked-by (at-pre .pre .1 .0) (c .before .match .keys3) pool-in .0,
+        checked-by (at-pre .pre .1 .0) (c .before .match .keys3) pool-in .1,
+        at-pre .pre .1 .0 .walks .slight,
+      ),
       (at-pre .pre .1 .1 .2, at-pre .pre .1 .1 .3),
     ))
     (λ c. let at-if1 = c .before .before .before .before .before in omega (arith, at-if1 .if1 .left))
     (λ c. let at-pre = c .before .before .before .before .before .before in omega (
       arith,
       at-pre .pre .1 .1 .1,
-      shift-small (at-pre .pre .1 .0)
-          (c .match .keys4),
+      checked-by (at-pre .pre .1 .0) (c .match .keys4) shift-small,
     ))
     (λ c κs. let at-if1 = c .before .before .before .before .before .before in let at-pre = at-if1 .before in visit-shift (at-pre .pre .0) (at-if1 .if1 .left)
-    _ _ (at-pre .pre .1 .1) (shift-small (at-pre .pre .1 .0) (c .before .match .keys4))
-    (reads-lower (at-pre .pre .1 .0) _ (shift-lower (at-pre .pre .1 .0) (c .before .match .keys4))))
+    _ _ (at-pre .pre .1 .1) (checked-by (at-pre .pre .1 .0) (c .before .match .keys4) shift-small)
+    (reads-one (at-pre .pre .1 .0) (parts-by (at-pre .pre .1 .0) (c .before .match .keys4))))
     (λ c. let at-if1 = c .before .before .before .before .before in omega (arith, at-if1 .if1 .left))
     (λ c κs. let at-if1 = c .before .before .before .before .before .before in let at-pre = at-if1 .before in visit-tagged (at-pre .pre .0)
-    (at-if1 .if1 .left) _ _ (at-pre .pre .1 .1) (both-reads (at-pre .pre .1 .0) (or-lower (at-pre .pre .1 .0) (c .before .match .keys5))))
+    (at-if1 .if1 .left) _ _ (at-pre .pre .1 .1) (reads-two (at-pre .pre .1 .0) (parts-by (at-pre .pre .1 .0) (c .before .match .keys5))))
     (λ c. let at-if1 = c .before .before .before .before .before in omega (arith, at-if1 .if1 .left))
     (λ c κs. let at-if1 = c .before .before .before .before .before .before in let at-pre = at-if1 .before in visit-shape (at-pre .pre .0) (at-if1 .if1 .left)
-    _ _ (at-pre .pre .1 .1) (both-reads (at-pre .pre .1 .0) (cons-lower (at-pre .pre .1 .0) (c .before .match .keys6))))
+    _ _ (at-pre .pre .1 .1) (reads-two (at-pre .pre .1 .0) (parts-by (at-pre .pre .1 .0) (c .before .match .keys6))))
     (λ c. let at-if1 = c .before .before .before .before .before in omega (arith, at-if1 .if1 .left))
     (λ c κs. let at-if1 = c .before .before .before .before .before .before in let at-pre = at-if1 .before in visit-shape (at-pre .pre .0) (at-if1 .if1 .left)
     _ _ (at-pre .pre .1 .1) (choosing (at-pre .pre .1 .0) (c .before .match .keys7)))
     (λ c. let at-if1 = c .before .before .before .before .before in omega (arith, at-if1 .if1 .left))
     (λ c κs. let at-if1 = c .before .before .before .before .before .before in let at-pre = at-if1 .before in visit-shape (at-pre .pre .0) (at-if1 .if1 .left)
     _ _ (at-pre .pre .1 .1) (
-      reads-lower (at-pre .pre .1 .0) _ (except-lower (at-pre .pre .1 .0) (c .before .match .keys8)),
-      except-small (at-pre .pre .1 .0)
-          (c .before .match .keys8),
+      reads-one (at-pre .pre .1 .0) (parts-by (at-pre .pre .1 .0) (c .before .match .keys8)),
+      checked-by (at-pre .pre .1 .0) (c .before .match .keys8) except-small,
     ))
     (λ c. let at-if1 = c .before .before .before .before .before in omega (arith, at-if1 .if1 .left))
     (λ c κs. let at-if1 = c .before .before .before .before .before .before in let at-pre = at-if1 .before in visit-part (at-pre .pre .0) (at-if1 .if1 .left)
-    _ _ (at-pre .pre .1 .1) (fix-reads (at-pre .pre .1 .0) (c .before .match .keys9)))
+    _ _ (at-pre .pre .1 .1) (reads-one (at-pre .pre .1 .0) (parts-by (at-pre .pre .1 .0) (c .before .match .keys9))))
     (λ c. let at-if1 = c .before .before .before .before .before in omega (arith, at-if1 .if1 .left))
     (λ c κs. let at-if1 = c .before .before .before .before .before .before in let at-pre = at-if1 .before in visit-part (at-pre .pre .0) (at-if1 .if1 .left)
-    _ _ (at-pre .pre .1 .1) (again-reads (at-pre .pre .1 .0) (c .before .match .keys10)))
-    (λ c. let at-match = c .before .before in let at-if1 = at-match .before .before .before .before .before in tree-taken _ _ _ (at-if1 .if1 .left)
-    (tree-of (below-rule _ _ _ (at-match .match .keys1))) (omega arith) (c .counted .ensures .1 _))
-    (λ c. let at-match = c .before .before in let at-if1 = at-match .before .before .before .before .before in tree-taken _ _ _ (at-if1 .if1 .left)
-    (tree-of (nats-rule _ _ _ (at-match .match .keys2))) (omega arith) (c .any .ensures _))
-    (λ c. let at-match = c .before .before in let at-if1 = at-match .before .before .before .before .before in tree-taken _ _ _ (at-if1 .if1 .left)
-    (tree-of (pool-rule _ _ _ (at-match .match .keys3))) (omega arith) (c .listed .ensures _))
+    _ _ (at-pre .pre .1 .1) (reads-one (at-pre .pre .1 .0) (parts-by (at-pre .pre .1 .0) (c .before .match .keys10))))
+    (λ c. let at-match = c .before .before in let at-if1 = at-match .before .before .before .before .before in let at-pre = at-if1 .before in
+    tree-taken _ _ _ (at-if1 .if1 .left)
+    (tree-by (at-pre .pre .1 .0) (at-match .match .keys1)) (omega arith) (c .counted .ensures .1 _))
+    (λ c. let at-match = c .before .before in let at-if1 = at-match .before .before .before .before .before in let at-pre = at-if1 .before in
+    tree-taken _ _ _ (at-if1 .if1 .left)
+    (tree-by (at-pre .pre .1 .0) (at-match .match .keys2)) (omega arith) (c .any .ensures _))
+    (λ c. let at-match = c .before .before in let at-if1 = at-match .before .before .before .before .before in let at-pre = at-if1 .before in
+    tree-taken _ _ _ (at-if1 .if1 .left)
+    (tree-by (at-pre .pre .1 .0) (at-match .match .keys3)) (omega arith) (c .listed .ensures _))
     (λ c. let at-match = c .before .before in let at-if1 = at-match .before .before .before .before .before in let at-pre = at-if1 .before in pass-taken _ _ _
-    (at-if1 .if1 .left) (shift-tree (at-pre .pre .1 .0) (at-match .match .keys4)) refl (omega arith) (c .take .ensures))
+    (at-if1 .if1 .left) (tree-by (at-pre .pre .1 .0) (at-match .match .keys4)) refl (omega arith) (c .take .ensures))
     (λ c. let at-match = c .before .before in let at-if1 = at-match .before .before .before .before .before in let at-pre = at-if1 .before in tree-taken _ _ _
-    (at-if1 .if1 .left) (tree-of (or-rule (at-pre .pre .1 .0) (at-match .match .keys5))) (omega arith) (c .tagged .ensures))
+    (at-if1 .if1 .left) (tree-by (at-pre .pre .1 .0) (at-match .match .keys5)) (omega arith) (c .tagged .ensures))
     (λ c. let at-match = c .before .before in let at-if1 = at-match .before .before .before .before .before in let at-pre = at-if1 .before in tree-taken _ _ _
-    (at-if1 .if1 .left) (tree-of (cons-rule (at-pre .pre .1 .0) (at-match .match .keys6))) (omega arith) (c .both .ensures))
+    (at-if1 .if1 .left) (tree-by (at-pre .pre .1 .0) (at-match .match .keys6)) (omega arith) (c .both .ensures))
     (λ c. let at-match = c .before .before in let at-if1 = at-match .before .before .before .before .before in let at-pre = at-if1 .before in tree-taken _ _ _
-    (at-if1 .if1 .left) (tree-of (dep-rule (at-pre .pre .1 .0) (at-match .match .keys7))) (omega arith) (c .chosen .ensures))
+    (at-if1 .if1 .left) (tree-by (at-pre .pre .1 .0) (at-match .match .keys7)) (omega arith) (c .chosen .ensures))
     (λ c. let at-match = c .before .before in let at-if1 = at-match .before .before .before .before .before in let at-pre = at-if1 .before in tree-taken _ _ _
-    (at-if1 .if1 .left) (tree-of (except-rule (at-pre .pre .1 .0) (at-match .match .keys8))) (omega arith) (c .without .ensures))
-    (λ c. let at-match = c .before .before in let at-if1 = at-match .before .before .before .before .before in pass-taken _ _ _ (at-if1 .if1 .left)
-    (fix-tree _ _ _ (at-match .match .keys9)) (sym (add-zero _)) (omega arith) (c .take2 .ensures))
-    (λ c. let at-match = c .before .before in let at-if1 = at-match .before .before .before .before .before in pass-taken _ _ _ (at-if1 .if1 .left)
-    (again-tree _ _ _ (at-match .match .keys10)) (sym (add-zero _)) (omega arith) (c .take3 .ensures))
+    (at-if1 .if1 .left) (tree-by (at-pre .pre .1 .0) (at-match .match .keys8)) (omega arith) (c .without .ensures))
+    (λ c. let at-match = c .before .before in let at-if1 = at-match .before .before .before .before .before in let at-pre = at-if1 .before in
+    pass-taken _ _ _ (at-if1 .if1 .left)
+    (tree-by (at-pre .pre .1 .0) (at-match .match .keys9)) (sym (add-zero _)) (omega arith) (c .take2 .ensures))
+    (λ c. let at-match = c .before .before in let at-if1 = at-match .before .before .before .before .before in let at-pre = at-if1 .before in
+    pass-taken _ _ _ (at-if1 .if1 .left)
+    (tree-by (at-pre .pre .1 .0) (at-match .match .keys10)) (sym (add-zero _)) (omega arith) (c .take3 .ensures))
     (λ c. let at-pre = c .before .before .before .before .before .before in absurd (known (at-pre .pre .1 .0) (c .match .rest))))
     (λ t. without-lts.spec (take-below t, take.Post, except-join.Asked, except-join.Learnt) (without-at t) without.Post
     (λ c κs. part-first (c .before .pre .0) _ _ (c .before .pre .1 .1) (c .before .pre .1 .0 .0))
