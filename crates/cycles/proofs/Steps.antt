@@ -23,13 +23,14 @@ use Rattle.grammar.specs.Law.{Under}
 use Rattle.grammar.specs.Steps.{stepsOf, Step}
 use Rattle.grammar.specs.Checked.{Checked}
 use Rattle.grammar.specs.Plan.{sizeIn, Ready}
+use Rattle.grammar.specs.kinds.Below.{belowRule}
 use Rattle.grammar.specs.Named.{named, Names}
 use Rattle.grammar.specs.declared.named.Named.{Named}
 use Rattle.numbers.proofs.Tests.{and-left, and-right}
 use Rattle.grammar.proofs.Runs.{run-long, run-at}
 use Rattle.grammar.proofs.Stepping.{under-mem}
 use Rattle.grammar.proofs.Checked.{step-lower}
-use Rattle.planning.proofs.KindSteps.{below-steps}
+use Rattle.planning.proofs.KindSteps.{steps-by}
 
 pub every-mem : (test : ℕ → Bool) (m : ℕ) (xs : List ℕ) → every test xs ≡ true → List·Memᴰ m xs → test m ≡ true
 unfolding every
@@ -41,12 +42,13 @@ every-mem test m (x ∷ xs) e i =
 module _ {t p : List ℕ} {z : ℕ → Size} (c : Checked t p z) (n m : ℕ) where
   -- past the table there are no steps
   step-from : (guarded : Bool) → Step guarded t p z n m → n < nodes t
+  unfolding belowRule
   step-from guarded s = ⊎-elim (λ l. absurd (none l)) (λ l. l) (le-or-lt (nodes t) n)
     where
       none : nodes t ≤ n → ⊥
       none l =
           let k : kindOf t n ≡ 0 = List·getD-eq-default t 0 (omega (arith, c .whole)) in
-          List·Memᴰ·not-nil (subst (List·Memᴰ m) (sym (below-steps guarded t p z n k)) s)
+          List·Memᴰ·not-nil (subst (List·Memᴰ m) (sym (steps-by guarded t p z n k)) s)
 
   -- every step is one of all steps
   step-among : (guarded : Bool) → Step guarded t p z n m → Step true t p z n m
