@@ -14,7 +14,6 @@ pub mod Dep
 pub mod Except
 pub mod Fix
 pub mod Again
-
 use mathlib.Core.Path.{refl}
 use mathlib.Core.Bool.{false≢true}
 use Rattle.graph.specs.Ways.{has}

@@ -14,7 +14,6 @@ pub mod Dep
 pub mod Except
 pub mod Fix
 pub mod Again
-
 use mathlib.Core.Bool.{Bool, false, true}
 use mathlib.Core.List.{List, [], _∷_, map}
 use Prim.Native.Nat.{ℕ}

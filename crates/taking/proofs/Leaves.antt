@@ -1,10 +1,11 @@
 -- The nodes that read one cell: below, nats and pool. They read no part, so what parts read (`go`) does not matter.
---   leaf-..      any of them: its cell is a number, is none, or is not there
+--   passed-..    what is made of the number that a cell stands for
+--   leaf-..      any of them: its cell is not there, or stands for a number or for none
 --   counted-..   below
 --   any-..       nats
 --   listed-..    pool
 -- Assumes nothing.
-use mathlib.Core.Path.{_≡_, refl, sym, subst, _∙_}
+use mathlib.Core.Path.{_≡_, refl}
 use mathlib.Core.Bool.{Bool, true, false}
 use mathlib.Core.List.{List}
 use Prim.Native.Nat.{ℕ, _+_, _^_, _≤_, _<_}
@@ -23,12 +24,18 @@ use Rattle.grammar.specs.kinds.Pool.{placeOf, poolRule}
 use Rattle.grammar.specs.declared.kinds.Place.{Place}
 use Rattle.grammar.specs.declared.kinds.Place.the-variants.{At, Nowhere}
 use Rattle.grammar.proofs.Words.{place-in}
-use Rattle.grammar.proofs.Places.{word-there, word-nowhere}
 use Rattle.walk.specs.Run.{Read, read, follow}
-use Rattle.taking.specs.Took.{Taken, Celled}
+use Rattle.taking.specs.Took.{Taken, Celled, PassedAt, Passed}
 use Rattle.taking.specs.declared.own.Cell.{Cell}
 use Rattle.taking.specs.declared.own.Cell.the-variants.{Of, Stops}
 use Rattle.taking.proofs.Cells.{taken-done, taken-number, taken-fails, cell-stops, cell-in, cell-of}
+
+-- ---- a cell that stands for a number, or for none
+pub passed-at : {s : Place} {at m : ℕ} → s ≡ At m → Passed s at (at + 1) m
+passed-at e = record { is = rw e (refl, refl) }
+
+pub passed-none : {s : Place} {at next : ℕ} → s ≡ Nowhere → Passed s at next (2 ^ 63 + 2)
+passed-none e = record { is = rw e refl }
 
 -- ---- F says what a cell is read as
 module _ {off : ℕ} {row : List ℕ} {at : ℕ} {r : Cell} (e : Celled off row at r) (go : ℕ → ℕ → ℕ → List ℕ → Read) (F : ℕ → Tree) where
@@ -36,46 +43,34 @@ module _ {off : ℕ} {row : List ℕ} {at : ℕ} {r : Cell} (e : Celled off row 
   unfolding follow
   leaf-stops q i = cell-stops e q i (λ c. follow go 0 (F c))
 
-  module _ {c : ℕ} (q : r ≡ Of c) where
-    leaf-done : {l m : ℕ} → F c ≡ done m → m < limit → Taken l (follow go off (takes F)) row at (at + 1) m
-    unfolding follow
-    leaf-done s i = cell-of e q (λ c. follow go 0 (F c)) (rw s (taken-done i (omega (arith, cell-in e q))))
-
-    leaf-fails : {l next : ℕ} → F c ≡ fails → Taken l (follow go off (takes F)) row at next (2 ^ 63 + 2)
-    unfolding follow
-    leaf-fails s = cell-of e q (λ c. follow go 0 (F c)) (rw s taken-fails)
+  -- a cell that stands for a number by itself, or for none
+  leaf-placed : {c : ℕ} → r ≡ Of c → (b : Bool) (m : ℕ) → F c ≡ pick b (done m) fails → (b ≡ true → m < limit) → {s : Place} → s ≡ pick b (At m) Nowhere
+      → {next w : ℕ} → Passed s at next w → Taken limit (follow go off (takes F)) row at next w
+  unfolding follow
+  leaf-placed {c} q b m d l {s} f {next} {w} h = by b d l (rw f at (h .is))
+    where
+      by : (b : Bool) → F c ≡ pick b (done m) fails → (b ≡ true → m < limit) → PassedAt (pick b (At m) Nowhere) at next w
+          → Taken limit (follow go off (takes F)) row at next w
+      by true d l k = rw (k .0, k .1) (cell-of e q (λ c. follow go 0 (F c)) (rw d (taken-done (l refl) (omega (arith, cell-in e q)))))
+      by false d l k = rw k (cell-of e q (λ c. follow go 0 (F c)) (rw d taken-fails))
 
 -- ---- below
-abbrev Counts : ℕ → ℕ → Place → Type 0
-Counts a c (At m) = (m < a) × (pick (ltb c a) (done c) fails ≡ done m)
-Counts a c Nowhere = pick (ltb c a) (done c) fails ≡ fails
-
-counts : (a c : ℕ) → Counts a c (counted a c)
-counts a c = by (ltb c a) refl
+pub counted-low : (a c : ℕ) {s : Place} → s ≡ counted a c → {at next w : ℕ} → Passed s at next w → w ≤ 2 ^ 63 → w < a
+counted-low a c f {at} {next} {w} h l = by (ltb c a) refl (rw f at (h .is))
   where
-    by : (q : Bool) → ltb c a ≡ q → Counts a c (pick q (At c) Nowhere)
-    by true e = (ltb-true c a e, rw e)
-    by false e = rw e
-
-pub counted-low : (a c : ℕ) {s : Place} → s ≡ counted a c → {m : ℕ} → s ≡ At m → m < a
-counted-low a c f {m} t = subst (Counts a c) (sym f ∙ t) (counts a c) .0
+    by : (b : Bool) → ltb c a ≡ b → PassedAt (pick b (At c) Nowhere) at next w → w < a
+    by true e k = omega (arith, ltb-true c a e, k .1)
+    by false e k = absurd (omega arith)
 
 module _ (a : ℕ) {off : ℕ} {row : List ℕ} {at : ℕ} {r : Cell} (e : Celled off row at r) (go : ℕ → ℕ → ℕ → List ℕ → Read) where
-  abbrev reading : ℕ → Tree
-  reading c = pick (ltb c a) (done c) fails
-
   pub counted-stops : {w : ℕ} → r ≡ Stops w → at ≤ length row → {next : ℕ} → Taken limit (follow go off (belowRule a .tree)) row at next w
   unfolding belowRule
-  counted-stops q i = leaf-stops e go reading q i
+  counted-stops q i = leaf-stops e go _ q i
 
-  module _ {c : ℕ} (q : r ≡ Of c) {s : Place} (f : s ≡ counted a c) where
-    pub counted-number : {m : ℕ} → s ≡ At m → a ≤ 2 ^ 62 → Taken limit (follow go off (belowRule a .tree)) row at (at + 1) m
-    unfolding belowRule
-    counted-number {m} t l = let h = subst (Counts a c) (sym f ∙ t) (counts a c) in leaf-done e go reading q (h .1) (omega (arith, h .0))
-
-    pub counted-unfit : s ≡ Nowhere → {next : ℕ} → Taken limit (follow go off (belowRule a .tree)) row at next (2 ^ 63 + 2)
-    unfolding belowRule
-    counted-unfit t = leaf-fails e go reading q (subst (Counts a c) (sym f ∙ t) (counts a c))
+  pub counted-placed : {c : ℕ} → r ≡ Of c → {s : Place} → s ≡ counted a c → a ≤ 2 ^ 62 → {next w : ℕ} → Passed s at next w
+      → Taken limit (follow go off (belowRule a .tree)) row at next w
+  unfolding belowRule
+  counted-placed {c} q f l h = leaf-placed e go (λ c. pick (ltb c a) (done c) fails) q (ltb c a) c refl (λ b. omega (arith, ltb-true c a b)) f h
 
 -- ---- nats
 module _ {off : ℕ} {row : List ℕ} {at : ℕ} {r : Cell} (e : Celled off row at r) (go : ℕ → ℕ → ℕ → List ℕ → Read) where
@@ -92,21 +87,13 @@ module _ (p : List ℕ) (a b : ℕ) {off : ℕ} {row : List ℕ} {at : ℕ} {r :
   abbrev ws : List ℕ
   ws = take b (drop a p)
 
-  abbrev placing : ℕ → Tree
-  placing c = pick (has c ws) (done (placeOf c ws)) fails
-
   pub listed-stops : {w : ℕ} → r ≡ Stops w → at ≤ length row → {next : ℕ} → Taken limit (follow go off (poolRule ws b .tree)) row at next w
   unfolding poolRule
-  listed-stops q i = leaf-stops e go placing q i
+  listed-stops q i = leaf-stops e go _ q i
 
-  module _ {c : ℕ} (q : r ≡ Of c) {s : Place} (f : s ≡ placed c ws) where
-    pub listed-number : {m : ℕ} → s ≡ At m → b ≤ 4096 → Taken limit (follow go off (poolRule ws b .tree)) row at (at + 1) m
-    unfolding poolRule
-    listed-number t l =
-        let o = word-there c ws f t in
-        let i = place-in c ws (o .0) in
-        leaf-done e go placing q (rw (o .0, o .1)) (omega (arith, i, o .1, length-take b (drop a p)))
-
-    pub listed-unfit : s ≡ Nowhere → {next : ℕ} → Taken limit (follow go off (poolRule ws b .tree)) row at next (2 ^ 63 + 2)
-    unfolding poolRule
-    listed-unfit t = leaf-fails e go placing q (rw (word-nowhere c ws f t))
+  pub listed-placed : {c : ℕ} → r ≡ Of c → {s : Place} → s ≡ placed c ws → b ≤ 4096 → {next w : ℕ} → Passed s at next w
+      → Taken limit (follow go off (poolRule ws b .tree)) row at next w
+  unfolding poolRule
+  listed-placed {c} q f l h =
+      leaf-placed e go (λ c. pick (has c ws) (done (placeOf c ws)) fails) q (has c ws) (placeOf c ws) refl
+      (λ o. omega (arith, place-in c ws o, length-take b (drop a p))) f h

@@ -4,6 +4,7 @@
 --   Taken     of a row that is the front of the cells, whatever cells and stop: 14 and 15 are told apart by them alone
 --   TakenBy   what a visit of a kind reads, with words a and b, where its parts have a depth left
 --   Celled    the next cell of a row
+--   Passed    what is made of the number that a cell stands for
 -- Assumes nothing.
 use mathlib.Core.Path.{_≡_}
 use mathlib.Core.Bool.{Bool}
@@ -16,6 +17,8 @@ use Rattle.numbers.specs.Joined.{limit}
 use Rattle.grammar.specs.declared.refusal.Refusal.{Refusal}
 use Rattle.grammar.specs.declared.refusal.Refusal.the-variants.{TooDeep, NoRoom, NotACase}
 use Rattle.grammar.specs.Kind.{Kind}
+use Rattle.grammar.specs.declared.kinds.Place.{Place}
+use Rattle.grammar.specs.declared.kinds.Place.the-variants.{At, Nowhere}
 use Rattle.grammar.specs.Plan.{sizeIn, ruleIn}
 use Rattle.walk.specs.Run.{Read, read, wrong, follow, run}
 use Rattle.taking.specs.declared.own.Cell.{Cell}
@@ -41,3 +44,11 @@ TakenBy k plan p a b left off row at next r =
 -- "15: the cells run out", or 14; "a cell less than k under a shift"
 pub record Celled (off : ℕ) (row : List ℕ) (at : ℕ) (r : Cell) : Type 0 where
   pub is : r ≡ pick (leb (length row) at) (Stops (2 ^ 63 + 3)) (pick (ltb (getD row at 0) off) (Stops (2 ^ 63 + 2)) (Of (getD row at 0 - off)))
+
+-- a cell that stands for number m is gone past; of another the word is 15's
+abbrev pub PassedAt : Place → ℕ → ℕ → ℕ → Type 0
+PassedAt (At m) at next r = (next ≡ at + 1) × (r ≡ m)
+PassedAt Nowhere at next r = r ≡ 2 ^ 63 + 2
+
+pub record Passed (s : Place) (at next r : ℕ) : Type 0 where
+  pub is : PassedAt s at next r

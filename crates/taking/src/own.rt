@@ -8,7 +8,7 @@ ghost use Rattle.grammar.specs.kinds.Below.{belowRule};
 ghost use Rattle.grammar.specs.kinds.Nats.{natsRule};
 ghost use Rattle.grammar.specs.kinds.Pool.{poolRule};
 ghost use Rattle.walk.specs.Run.{Read, follow};
-ghost use Rattle.taking.specs.Took.{Celled, Taken};
+ghost use Rattle.taking.specs.Took.{Celled, Passed, Taken};
 use grammar::kinds::Place;
 use grammar::kinds::below;
 use grammar::kinds::pool;
@@ -58,21 +58,28 @@ pub fn any(row: &&[u64], off: u64, at: &mut usize) -> u64
     }
 }
 
+// A cell that stands for a number is gone past, another is not.
+fn passed(s: Place, at: &mut usize) -> u64
+    requires { ⌜ now at < 65536 ⌝ }
+    ensures { λ r. ⌜ Passed s (now (at .entry)) (now (at .exit)) r ⌝ }
+{
+    match s {
+        Place::At(m) => {
+            *at += 1;
+            m
+        }
+        Place::Nowhere => UNFIT,
+    }
+}
+
 // below: a number below a count
 pub fn counted(a: u64, row: &&[u64], off: u64, at: &mut usize) -> u64
     requires { ⌜ (a ≤ 2 ^ 62) × (now at ≤ length (now (now row))) × (length (now (now row)) ≤ 65536) ⌝ }
     ensures { λ r. ⌜ (r ≤ 2 ^ 63 → r < a) × ((go : ℕ → ℕ → ℕ → List ℕ → Read) → Taken (2 ^ 62 + 256) (follow go off (belowRule a .tree))
         (now (now (row .entry))) (now (at .entry)) (now (at .exit)) r) ⌝ }
 {
-    let k = *at;
-    match cell_at(*row, k, off) {
-        Cell::Of(c) => match below::place_of(a, c) {
-            Place::At(m) => {
-                *at = k + 1;
-                m
-            }
-            Place::Nowhere => UNFIT,
-        },
+    match cell_at(*row, *at, off) {
+        Cell::Of(c) => passed(below::place_of(a, c), at),
         Cell::Stops(w) => w,
     }
 }
@@ -85,15 +92,8 @@ pub fn listed(words: &&[u64], a: usize, b: usize, row: &&[u64], off: u64, at: &m
         (follow go off (poolRule (front b (drop a (now (now (words .entry))))) b .tree))
         (now (now (row .entry))) (now (at .entry)) (now (at .exit)) r) ⌝ }
 {
-    let k = *at;
-    match cell_at(*row, k, off) {
-        Cell::Of(c) => match pool::place_of(*words, a, b, c) {
-            Place::At(m) => {
-                *at = k + 1;
-                m
-            }
-            Place::Nowhere => UNFIT,
-        },
+    match cell_at(*row, *at, off) {
+        Cell::Of(c) => passed(pool::place_of(*words, a, b, c), at),
         Cell::Stops(w) => w,
     }
 }

@@ -41,21 +41,15 @@ fn tagged(
         (now (now (row .entry))) (now (at .entry)) (now (at .exit)) r ⌝ }
 {
     let tag = counted(TAGS, row, off, at);
-    if tag == 0 {
-        let m = take(lent, words, row, a, left, 0, at);
-        if BIG <= m {
-            return m;
-        }
-        return or::join(*lent, 0, b, m);
+    if TAGS <= tag {
+        return tag;
     }
-    if tag == 1 {
-        let m = take(lent, words, row, b, left, 0, at);
-        if BIG <= m {
-            return m;
-        }
-        return or::join(*lent, 1, a, m);
+    let s = or::sides_of(tag, a, b);
+    let m = take(lent, words, row, s.part, left, 0, at);
+    if BIG <= m {
+        return m;
     }
-    tag
+    or::join(*lent, tag, s.other, m)
 }
 
 // cons: both parts

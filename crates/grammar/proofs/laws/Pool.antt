@@ -46,8 +46,7 @@ module _ (z : ℕ → Size) (count b : ℕ) (ws : List ℕ) (long : length ws �
 
 pub pool-in : (v : Node) (z : ℕ → Size) → Holds (pool .checks v z) → (v .b ≤ 4096) × (v .a + v .b ≤ length (v .pool))
 pool-in v z h =
-    let l = and-left (leb 1 (v .b) && leb (v .b) 4096) _ (h .0) in
-    (
+    let l = and-left (leb 1 (v .b) && leb (v .b) 4096) _ (h .0) in (
       leb-true (v .b) 4096 (and-right (leb 1 (v .b)) _ l),
       leb-true (v .a + v .b) (length (v .pool)) (and-right (leb 1 (v .b) && leb (v .b) 4096) _ (h .0)),
     )

@@ -2,6 +2,7 @@
 ghost use mathlib.Core.Path.{_≡_};
 ghost use mathlib.Core.List.{List, [], _∷_};
 ghost use Prim.Native.Nat.{ℕ, _+_, _*_, _<_, _≤_};
+ghost use lib.Dec.{eqb};
 ghost use lib.ListN.{length};
 ghost use Rattle.numbers.specs.Pick.{pick};
 ghost use Rattle.numbers.specs.Joined.{capped, wordOf};
@@ -64,6 +65,21 @@ pub fn step(plan: &[u64], a: usize, b: usize, n: u64) -> Tagged
             number: m,
         },
     }
+}
+
+// The part that a tag leads to, and the other one.
+pub struct Sides {
+    pub part: usize,
+    pub other: usize,
+}
+
+pub fn sides_of(tag: u64, a: usize, b: usize) -> Sides
+    ensures { λ r. ⌜ (r .part ≡ pick (eqb tag 0) a b) × (r .other ≡ pick (eqb tag 0) b a) ⌝ }
+{
+    if tag == 0 {
+        return Sides { part: a, other: b };
+    }
+    Sides { part: b, other: a }
 }
 
 // The number of an or's case: m is the number of the part with this tag; c is the other part.

@@ -1,14 +1,17 @@
 -- What an or reads: a tag, which has been read as x, and then the part that it leads to.
 -- Assumes nothing.
-use mathlib.Core.Path.{_≡_}
+use mathlib.Core.Path.{_≡_, refl, sym, subst}
+use mathlib.Core.Logic.{⊎-elim}
 use mathlib.Core.List.{List}
-use Prim.Native.Nat.{ℕ, _+_, _-_, _^_, _≤_, _<_}
+use Prim.Native.Nat.{ℕ, zero, suc, _+_, _-_, _^_, _≤_, _<_}
 use native.Mathlib.Omega.{arith}
 use lib.Dec.{eqb}
 use lib.ListN.{length}
 use borrow.Author.Tests.{ne-eqb}
+use Rattle.graph.proofs.Marks.{le-or-lt}
 use Rattle.numbers.specs.Pick.{pick}
 use Rattle.numbers.specs.Or
+use Rattle.numbers.proofs.Tests.{pick-by}
 use Rattle.numbers.specs.Joined.{limit, capped, wordOf}
 use Rattle.numbers.specs.declared.or.Part.the-variants.{First, Second}
 use Rattle.numbers.proofs.or.Laws as Ors
@@ -27,49 +30,60 @@ pub tag-inside : (off : ℕ) {row : List ℕ} {at e x : ℕ} → ((go : ℕ → 
     → x ≤ 2 ^ 63 → e ≤ length row
 tag-inside off h l = h (λ o i q cs. wrong NotACase) .inside l
 
+-- a word that is no tag says why
+pub tag-none : (x : ℕ) → (x ≤ 2 ^ 63 → x < 2) → 2 ≤ x → 2 ^ 63 < x
+tag-none x f l = ⊎-elim (λ h. absurd (omega (arith, f h))) (λ h. h) (le-or-lt x (2 ^ 63))
+
 module _ (plan p : List ℕ) (a b left off : ℕ) {row : List ℕ} {at e x : ℕ}
     (h : (go : ℕ → ℕ → ℕ → List ℕ → Read) → Taken limit (follow go off (belowRule 2 .tree)) row at e x) where
   abbrev go : ℕ → ℕ → ℕ → List ℕ → Read
   go = run (ruleIn plan p) left
 
-  abbrev first : ℕ → ℕ
-  first m = Or.join (sizeIn plan a) (sizeIn plan b) (First m)
+  -- the part that a tag leads to, and the other one
+  abbrev part : ℕ → ℕ
+  part c = pick (eqb c 0) a b
 
-  abbrev second : ℕ → ℕ
-  second m = Or.join (sizeIn plan a) (sizeIn plan b) (Second m)
+  abbrev other : ℕ → ℕ
+  other c = pick (eqb c 0) b a
+
+  abbrev joined : ℕ → ℕ → ℕ
+  joined c m = Or.turn c (sizeIn plan (other c)) m
 
   abbrev branches : ℕ → Tree
-  branches c = pick (eqb c 0) (reads a 0 (λ m. done (first m))) (pick (eqb c 1) (reads b 0 (λ m. done (second m))) fails)
+  branches c =
+      pick (eqb c 0) (reads a 0 (λ m. done (Or.join (sizeIn plan a) (sizeIn plan b) (First m))))
+      (pick (eqb c 1) (reads b 0 (λ m. done (Or.join (sizeIn plan a) (sizeIn plan b) (Second m)))) fails)
 
   none : (c : ℕ) → 2 ≤ c → branches c ≡ fails
   none c l = rw (ne-eqb c 0 (λ e. omega arith), ne-eqb c 1 (λ e. omega arith))
 
+  side : (c : ℕ) → c < 2 → branches c ≡ reads (part c) 0 (λ m. done (joined c m))
+  unfolding Or.join
+  side zero l = refl
+  side (suc zero) l = refl
+  side (suc (suc c)) l = absurd (omega arith)
+
   pub or-stops : 2 ^ 63 < x → TakenBy orKind plan p a b left off row at e x
   unfolding orRule
-  or-stops b = tag-stops go off branches 2 none (h go) b
+  or-stops l = tag-stops go off branches 2 none (h go) l
 
-  module _ (q : x ≡ 0) {next y : ℕ} (k : Taken (2 ^ 62 + (201 - left)) (go 0 a) row e next y) where
-    pub first-stays : 2 ^ 63 ≤ y → TakenBy orKind plan p a b left off row at next y
+  module _ (l : x < 2) {i next y : ℕ} (q : i ≡ part x) (k : Taken (2 ^ 62 + (201 - left)) (go 0 i) row e next y) where
+    at-part : Taken (2 ^ 62 + (201 - left)) (go 0 (part x)) row e next y
+    at-part = subst (λ (j : ℕ). Taken (2 ^ 62 + (201 - left)) (go 0 j) row e next y) q k
+
+    pub or-stays : 2 ^ 63 ≤ y → TakenBy orKind plan p a b left off row at next y
     unfolding orRule
-    first-stays big =
-        tag-then go off branches 2 none (h go) (omega arith) (rw q)
-        (last-stays go first (λ m. Ors.join-least (sizeIn plan a) (sizeIn plan b) (First m)) k (omega arith) big)
+    or-stays big =
+        tag-then go off branches 2 none (h go) (omega arith) (side x l)
+        (last-stays go (joined x) (Ors.turn-least x (sizeIn plan (other x))) at-part (omega arith) big)
 
-    pub first-number : y < 2 ^ 63 → {w : ℕ} → w ≡ wordOf (capped (Or.turn 0 (sizeIn plan b) y)) → TakenBy orKind plan p a b left off row at next w
-    unfolding orRule Or.join
-    first-number small f =
-        tag-then go off branches 2 none (h go) (omega arith) (rw q)
-        (last-number go first (λ m. Ors.join-least (sizeIn plan a) (sizeIn plan b) (First m)) k small (omega arith) f)
-
-  module _ (q : x ≡ 1) {next y : ℕ} (k : Taken (2 ^ 62 + (201 - left)) (go 0 b) row e next y) where
-    pub second-stays : 2 ^ 63 ≤ y → TakenBy orKind plan p a b left off row at next y
+    pub or-number : y < 2 ^ 63 → {o w : ℕ} → o ≡ other x → w ≡ wordOf (capped (Or.turn x (sizeIn plan o) y)) → TakenBy orKind plan p a b left off row at next w
     unfolding orRule
-    second-stays big =
-        tag-then go off branches 2 none (h go) (omega arith) (rw q)
-        (last-stays go second (λ m. Ors.join-least (sizeIn plan a) (sizeIn plan b) (Second m)) k (omega arith) big)
+    or-number small {o} {w} f g =
+        tag-then go off branches 2 none (h go) (omega arith) (side x l)
+        (last-number go (joined x) (Ors.turn-least x (sizeIn plan (other x))) at-part small (omega arith)
+        (subst (λ (j : ℕ). w ≡ wordOf (capped (Or.turn x (sizeIn plan j) y))) f g))
 
-    pub second-number : y < 2 ^ 63 → {w : ℕ} → w ≡ wordOf (capped (Or.turn 1 (sizeIn plan a) y)) → TakenBy orKind plan p a b left off row at next w
-    unfolding orRule Or.join
-    second-number small f =
-        tag-then go off branches 2 none (h go) (omega arith) (rw q)
-        (last-number go second (λ m. Ors.join-least (sizeIn plan a) (sizeIn plan b) (Second m)) k small (omega arith) f)
+-- either part of an or
+pub side-of : (P : ℕ → Type 0) (a b : ℕ) → P a × P b → (x : ℕ) {i : ℕ} → i ≡ pick (eqb x 0) a b → P i
+side-of P a b h x e = subst P (sym e) (pick-by P (eqb x 0) (λ q. h .0) (λ q. h .1))

@@ -2,8 +2,8 @@
 -- Assumes nothing.
 use native.Mathlib.Omega.{arith}
 use borrow.Author.Needs.{needs}
-use Rattle.taking.proofs.Cells.{cell-over}
-use Rattle.taking.proofs.Leaves.{counted-low, counted-number, counted-stops, counted-unfit}
+use Rattle.taking.proofs.Cells.{cell-in, cell-over}
+use Rattle.taking.proofs.Leaves.{counted-low, counted-placed, counted-stops}
 use Rattle.taking.proofs.own.counted.Statement.{statement}
 use Rattle.taking.proofs.own.counted.Tie as tie
 
@@ -14,27 +14,15 @@ counted-spec =
     (λ c κs. search needs)
     (λ c. search needs)
     (λ c κs. search needs)
+    (λ c κs. let at-c = c .before .before .before in let at-cell-at = at-c .before .before in
+    let at-pre = at-cell-at .before .before .before in omega (arith, at-pre .pre .2, cell-in (at-cell-at .cell-at .ensures) (at-c .c .given .1)))
     (λ c. search needs)
-    (λ c. omega (
-      arith,
-      c .before .before .before .before .before .before .before .before .before .before .pre .1,
-      c .before .before .before .before .before .before .before .before .before .before .pre .2,
+    (λ c. let at-place-of = c .before .before in let at-c = at-place-of .before .before in let at-cell-at = at-c .before .before in
+    let at-pre = at-cell-at .before .before .before in (
+      λ l. counted-low _ _ (at-place-of .place-of .ensures) (c .passed .ensures) l,
+      λ go. counted-placed _ (at-cell-at .cell-at .ensures) go (at-c .c .given .1) (at-place-of .place-of .ensures) (at-pre .pre .0) (c .passed .ensures),
     ))
-    (λ c. search needs)
-    (λ c. search needs)
-    (λ c. (
-      λ l. counted-low _ _ (c .before .before .before .place-of .ensures) (c .before .m .given .1),
-      λ go. counted-number _ (c .before .before .before .before .before .before .before .cell-at .ensures) go
-          (c .before .before .before .before .before .c .given .1) (c .before .before .before .place-of .ensures) (c .before .m .given .1)
-          (c .before .before .before .before .before .before .before .before .before .before .pre .0),
-    ))
-    (λ c. (
-      λ l. absurd (omega arith),
-      λ go. counted-unfit _ (c .before .before .before .before .before .before .cell-at .ensures) go (c .before .before .before .before .c .given .1)
-          (c .before .before .place-of .ensures) (c .enum-told .given .1),
-    ))
-    (λ c. (
-      λ l. absurd (omega (arith, cell-over (c .before .before .before .cell-at .ensures) (c .before .w .given .1))),
-      λ go. counted-stops _ (c .before .before .before .cell-at .ensures) go (c .before .w .given .1)
-          (c .before .before .before .before .before .before .pre .1),
+    (λ c. let at-cell-at = c .before .before .before in let at-pre = at-cell-at .before .before .before in (
+      λ l. absurd (omega (arith, cell-over (at-cell-at .cell-at .ensures) (c .before .w .given .1))),
+      λ go. counted-stops _ (at-cell-at .cell-at .ensures) go (c .before .w .given .1) (at-pre .pre .1),
     )))

@@ -2,13 +2,13 @@
 -- except reads. The measure is twice the depth left, and one more for those four. Each arm of the walk is its kind's tree.
 -- Assumes nothing.
 use mathlib.Core.Path.{refl, sym}
-use mathlib.Core.Logic.{⊎-elim}
 use Prim.Native.Nat.{ℕ, _+_, _*_, _^_, _<_}
 use native.Mathlib.Nat.{add-zero}
 use native.Mathlib.Omega.{arith}
 use borrow.Fn.Kinds.{In}
 use borrow.Fn.PlainCycle.{Measures, is, falls, and}
-use Rattle.graph.proofs.Marks.{le-or-lt}
+use borrow.Author.Needs.{needs}
+use Rattle.walk.specs.Plan.{Reading}
 use Rattle.grammar.proofs.laws.{rules}
 use Rattle.grammar.proofs.laws.Below.{below-most}
 use Rattle.grammar.proofs.laws.Pool.{pool-in}
@@ -18,7 +18,7 @@ use Rattle.walk.proofs.Nodes.{in-plan, reads-in, known, tree-by, parts-by, chec
 use Rattle.walk.proofs.Choosing.{choosing, second-place}
 use Rattle.taking.proofs.Calls.{part-first, part-next, visit-part, visit-shift, visit-shape, visit-tagged}
 use Rattle.taking.proofs.Takes.{deep-taken, tree-taken, pass-taken}
-use Rattle.taking.proofs.kinds.Or.{tag-inside, or-stops, first-stays, first-number, second-stays, second-number}
+use Rattle.taking.proofs.kinds.Or.{tag-inside, tag-none, or-stops, or-stays, or-number, side-of}
 use Rattle.taking.proofs.kinds.Cons.{cons-stops, cons-stays, cons-big, cons-number}
 use Rattle.taking.proofs.kinds.Dep.{dep-first, dep-stops, dep-stays, dep-number}
 use Rattle.taking.proofs.kinds.Except.{except-unfit, except-stays, except-number}
@@ -40,6 +40,7 @@ use Rattle.taking.proofs.take.+both+chosen+tagged+take+without.Lts-with
 use Rattle.grammar.proofs.kinds.cons.join.Reads as cons-join
 use Rattle.grammar.proofs.kinds.dep.join.Reads as dep-join
 use Rattle.grammar.proofs.kinds.or.join.Reads as or-join
+use Rattle.grammar.proofs.kinds.or.sides_of.Reads as or-sides
 use Rattle.grammar.proofs.kinds.except.join.Reads as except-join
 use Rattle.taking.proofs.own.any.Reads as any
 use Rattle.taking.proofs.own.counted.Reads as counted
@@ -155,24 +156,30 @@ unfolding rules
     let at-take = at-if1 .before in let at-pre = at-take .before .before in dep-number (at-pre .pre .1 .0) _ _ (at-take .take .ensures)
     (dep-first (at-pre .pre .1 .0) _ _ (at-take .take .ensures) (omega (arith, at-if1 .if1 .left))) (at-take2 .take2 .ensures) (at-if2 .if2 .left)
     (c .join .ensures)))
-    (λ t. tagged-lts.spec (counted.Asked, counted.Learnt, take-below t, take.Post, or-join.Asked, or-join.Learnt) (tagged-at t) tagged.Post
+    (λ t. tagged-lts.spec (counted.Asked, counted.Learnt, or-sides.Asked, or-sides.Learnt, take-below t, take.Post, or-join.Asked, or-join.Learnt)
+    (tagged-at t) tagged.Post
     (λ c κs. (omega arith, c .before .pre .1 .1 .1, c .before .pre .1 .1 .2))
-    (λ c κs. let at-counted = c .before .before in let at-pre = at-counted .before .before in part-next (at-pre .pre .0) (at-pre .pre .1 .1 .0)
-    (tag-inside _ (at-counted .counted .ensures .1) (omega (arith, c .before .if1 .taken))) (at-pre .pre .1 .1 .2) (at-pre .pre .1 .0 .0))
-    (λ c. let at-if1 = c .before .before .before in let at-counted = at-if1 .before in first-stays _ _ _ _ _ _ (at-counted .counted .ensures .1)
-    (at-if1 .if1 .taken) (c .before .take .ensures) (c .if2 .taken))
-    (λ c κs. let at-pre = c .before .before .before .before .before .before .before in (omega arith, reads-in (at-pre .pre .1 .0 .1)))
-    (λ c. let at-if2 = c .before .before in let at-take = at-if2 .before in let at-if1 = at-take .before .before in let at-counted = at-if1 .before in
-    first-number _ _ _ _ _ _ (at-counted .counted .ensures .1) (at-if1 .if1 .taken) (at-take .take .ensures) (at-if2 .if2 .left) (c .join .ensures))
-    (λ c κs. let at-counted = c .before .before .before in let at-pre = at-counted .before .before in part-next (at-pre .pre .0) (at-pre .pre .1 .1 .0)
-    (tag-inside _ (at-counted .counted .ensures .1) (omega (arith, c .before .if3 .taken))) (at-pre .pre .1 .1 .2) (at-pre .pre .1 .0 .1))
-    (λ c. let at-if3 = c .before .before .before in let at-counted = at-if3 .before .before in second-stays _ _ _ _ _ _ (at-counted .counted .ensures .1)
-    (at-if3 .if3 .taken) (c .before .take2 .ensures) (c .if4 .taken))
-    (λ c κs. let at-pre = c .before .before .before .before .before .before .before .before in (omega arith, reads-in (at-pre .pre .1 .0 .0)))
-    (λ c. let at-if4 = c .before .before in let at-take2 = at-if4 .before in let at-if3 = at-take2 .before .before in let at-counted = at-if3 .before .before
-    in second-number _ _ _ _ _ _ (at-counted .counted .ensures .1) (at-if3 .if3 .taken) (at-take2 .take2 .ensures) (at-if4 .if4 .left) (c .join2 .ensures))
-    (λ c. let at-counted = c .before .before in or-stops _ _ _ _ _ _ (at-counted .counted .ensures .1)
-    (⊎-elim (λ l. absurd (omega (arith, at-counted .counted .ensures .0 l, c .before .if1 .left, c .if3 .left))) (λ l. l) (le-or-lt _ (2 ^ 63)))))
+    (λ c. or-stops _ _ _ _ _ _ (c .before .counted .ensures .1) (tag-none _ (c .before .counted .ensures .0) (c .if1 .taken)))
+    (λ c κs. search needs)
+    (λ c κs. let at-if1 = c .before .before in let at-counted = at-if1 .before in
+    let at-pre = at-counted .before .before in
+    part-next (at-pre .pre .0) (at-pre .pre .1 .1 .0) (tag-inside _ (at-counted .counted .ensures .1) (omega (arith, at-if1 .if1 .left))) (at-pre .pre .1 .1 .2)
+    (side-of (Reading _ _) _ _ (at-pre .pre .1 .0) (at-counted .counted .result) (c .before .sides-of .ensures .0)))
+    (λ c. let at-sides-of = c .before .before .before in let at-if1 = at-sides-of .before in
+    let at-counted = at-if1 .before in
+    or-stays _ _ _ _ _ _ (at-counted .counted .ensures .1) (omega (arith, at-if1 .if1 .left)) (at-sides-of .sides-of .ensures .0) (c .before .take .ensures)
+    (c .if2 .taken))
+    (λ c κs. let at-sides-of = c .before .before .before .before in let at-if1 = at-sides-of .before in
+    let at-pre = at-if1 .before .before .before in (
+      omega (arith, at-if1 .if1 .left),
+      reads-in (side-of (Reading _ _) _ _ (at-pre .pre .1 .0 .1, at-pre .pre .1 .0 .0) (at-if1 .before .counted .result)
+          (at-sides-of .sides-of .ensures .1)),
+    ))
+    (λ c. let at-if2 = c .before .before in let at-take = at-if2 .before in let at-sides-of = at-take .before .before in let at-if1 = at-sides-of .before in
+    let at-counted = at-if1 .before in
+    or-number _ _ _ _ _ _ (at-counted .counted .ensures .1) (omega (arith, at-if1 .if1 .left)) (at-sides-of .sides-of .ensures .0) (at-take .take .ensures)
+    (at-if2 .if2 .left)
+    (at-sides-of .sides-of .ensures .1) (c .join .ensures)))
     (λ t. take-lts.spec (calls t) (take-at t) take.Post
     (λ c. deep-taken _ _ _ (c .if1 .taken))
     (λ c. let at-pre = c .before .before in let q = in-plan (at-pre .pre .1 .0) in omega (arith, q .0, q .1))
