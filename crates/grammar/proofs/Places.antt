@@ -1,9 +1,7 @@
 -- The search for a word's place.
---   Placing                  what the loop has shown, and its turns
---   word-there, word-nowhere what a search has found
+--   Placing   what the loop has shown, and its turns
 -- Assumes nothing.
-use mathlib.Core.Path.{_≡_, refl, sym, subst, _∙_}
-use mathlib.Core.Bool.{Bool, true, false}
+use mathlib.Core.Path.{_≡_, refl, sym, _∙_}
 use mathlib.Core.List.{List, _∷_}
 use Prim.Native.Nat.{ℕ, suc, _+_, _≤_, _<_}
 use native.Mathlib.Numerals.{add-one}
@@ -11,11 +9,9 @@ use native.Mathlib.Omega.{arith}
 use lib.ListN.{length, getD, take, drop, drop-of-length-le}
 use lib.Seq.{drop-cons}
 use borrow.Author.Tests.{eq-eqb, ne-eqb}
-use Rattle.numbers.specs.Pick.{pick}
 use Rattle.graph.specs.Ways.{has}
 use Rattle.grammar.specs.kinds.Pool.{placeOf}
 use Rattle.grammar.specs.Placed.{placed}
-use Rattle.grammar.specs.declared.kinds.Place.{Place}
 use Rattle.grammar.specs.declared.kinds.Place.the-variants.{At, Nowhere}
 use Rattle.grammar.proofs.Runs.{run-long, run-at}
 
@@ -49,25 +45,3 @@ module _ {p : List ℕ} {at count c k : ℕ} (in-p : at + count ≤ length p) (s
   pub placing-end : count ≤ k → Nowhere ≡ placed c (take count (drop at p))
   unfolding has
   placing-end l = rw (s .there, drop-of-length-le (take count (drop at p)) {i = k} (omega (arith, run-long p at count in-p)))
-
--- ---- what a search has found
-abbrev Stands : ℕ → List ℕ → Place → Type 0
-Stands c ws (At k) = (has c ws ≡ true) × (placeOf c ws ≡ k)
-Stands c ws Nowhere = has c ws ≡ false
-
-stands : (c : ℕ) (ws : List ℕ) → Stands c ws (placed c ws)
-stands c ws = by (has c ws) refl
-  where
-    by : (q : Bool) → has c ws ≡ q → Stands c ws (pick q (At (placeOf c ws)) Nowhere)
-    by true e = (e, refl)
-    by false e = e
-
-module _ (c : ℕ) (ws : List ℕ) {r : Place} (e : r ≡ placed c ws) where
-  stood : (s : Place) → r ≡ s → Stands c ws s
-  stood s q = subst (Stands c ws) (sym e ∙ q) (stands c ws)
-
-  pub word-there : {k : ℕ} → r ≡ At k → (has c ws ≡ true) × (placeOf c ws ≡ k)
-  word-there {k} q = stood (At k) q
-
-  pub word-nowhere : r ≡ Nowhere → has c ws ≡ false
-  word-nowhere q = stood Nowhere q

@@ -2,7 +2,7 @@
 --   rules     their rules, opened by one name; ruling also what those are made of
 --   laws      each keeps the law
 --   lowers    all steps lead to lower nodes but again's, which goes up to its fix
---   plains    all are no excepts but except
+--   plains    all but except are no excepts
 -- Assumes nothing.
 pub mod Below
 pub mod Nats
@@ -29,16 +29,16 @@ use Rattle.grammar.specs.kinds.Dep.{secondsOf, depRule}
 use Rattle.grammar.specs.kinds.Except.{exceptRule}
 use Rattle.grammar.specs.kinds.Fix.{passRule}
 use Rattle.grammar.proofs.KindLaw.{KindLaw, Lower, Plain, All, AllBut}
-use Rattle.grammar.proofs.laws.Below.{below-law, below-lower}
-use Rattle.grammar.proofs.laws.Nats.{nats-law, nats-lower}
-use Rattle.grammar.proofs.laws.Pool.{pool-law, pool-lower}
-use Rattle.grammar.proofs.laws.Shift.{shift-law, shift-lower}
-use Rattle.grammar.proofs.laws.Or.{or-law, or-lower}
-use Rattle.grammar.proofs.laws.Cons.{cons-law, cons-lower}
-use Rattle.grammar.proofs.laws.Dep.{dep-law, dep-lower}
+use Rattle.grammar.proofs.laws.Below.{below-law, below-lower, below-plain}
+use Rattle.grammar.proofs.laws.Nats.{nats-law, nats-lower, nats-plain}
+use Rattle.grammar.proofs.laws.Pool.{pool-law, pool-lower, pool-plain}
+use Rattle.grammar.proofs.laws.Shift.{shift-law, shift-lower, shift-plain}
+use Rattle.grammar.proofs.laws.Or.{or-law, or-lower, or-plain}
+use Rattle.grammar.proofs.laws.Cons.{cons-law, cons-lower, cons-plain}
+use Rattle.grammar.proofs.laws.Dep.{dep-law, dep-lower, dep-plain}
 use Rattle.grammar.proofs.laws.Except.{except-law, except-lower}
-use Rattle.grammar.proofs.laws.Fix.{fix-law, fix-lower}
-use Rattle.grammar.proofs.laws.Again.{again-law}
+use Rattle.grammar.proofs.laws.Fix.{fix-law, fix-lower, fix-plain}
+use Rattle.grammar.proofs.laws.Again.{again-law, again-plain}
 
 unfoldable pub rules : Unit {0}
 unfolding belowRule natsRule poolRule shiftRule orRule consRule depRule exceptRule passRule
@@ -62,6 +62,4 @@ pub unknown-lower : Lower unknown
 unknown-lower v z h = tt
 
 pub plains : AllBut 7 Plain kinds
-unfolding rules
-plains =
-    (λ a b p z. refl, (λ a b p z. refl, (λ a b p z. refl, (λ a b p z. refl, (λ a b p z. refl, (λ a b p z. refl, (λ a b p z. refl, (λ a b p z. refl, (λ a b p z. refl, tt)))))))))
+plains = (below-plain, (nats-plain, (pool-plain, (shift-plain, (or-plain, (cons-plain, (dep-plain, (fix-plain, (again-plain, tt)))))))))

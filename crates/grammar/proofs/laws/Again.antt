@@ -1,12 +1,13 @@
 -- The law of again. Its step leads up.
 --   again-law    its rule is lawful, and its size fits
+--   again-plain    it is no except
 -- Assumes nothing.
 use mathlib.Core.Path.{refl}
 use mathlib.Core.Bool.{_&&_}
 use lib.Dec.{ltb}
 use borrow.Author.Tests.{ltb-true, eqb-true}
 use Rattle.numbers.proofs.Tests.{and-left, and-right}
-use Rattle.grammar.proofs.KindLaw.{KindLaw}
+use Rattle.grammar.proofs.KindLaw.{KindLaw, Plain}
 use Rattle.grammar.specs.kinds.Fix.{passRule}
 use Rattle.grammar.specs.kinds.Again.{again}
 use Rattle.grammar.proofs.laws.Fix.{pass-rule}
@@ -21,3 +22,7 @@ again-law = record {
       pass-rule z (v .nodes) (v .a) la (r .fixes (v .a) la k);
   fit = λ v z f h. unfold passRule in tt;
 }
+
+pub again-plain : Plain again
+unfolding passRule
+again-plain a b p z = refl

@@ -1,5 +1,6 @@
 -- The law of below.
 --   below-law      its rule is lawful, and its size fits
+--   below-plain    it is no except
 --   below-lower    it steps nowhere
 --   below-most     its count is at most 2^62
 -- Assumes nothing.
@@ -15,7 +16,7 @@ use Rattle.grammar.specs.Rule.{own, done, fails, reads}
 use Rattle.grammar.specs.Law.{Lawful, Holds}
 use Rattle.grammar.specs.Kind.{Node, before}
 use Rattle.grammar.proofs.Trees.{spell-done, spell-takes, spell-left, read-pick, names-pick}
-use Rattle.grammar.proofs.KindLaw.{KindLaw, Lower}
+use Rattle.grammar.proofs.KindLaw.{KindLaw, Lower, Plain}
 use Rattle.grammar.specs.kinds.Below.{belowRule, below}
 
 below-rule : (z : ℕ → Size) (count a : ℕ) → Lawful z count (belowRule a)
@@ -44,3 +45,7 @@ below-law = record {
 pub below-lower : Lower below
 unfolding belowRule
 below-lower v z h = tt
+
+pub below-plain : Plain below
+unfolding belowRule
+below-plain a b p z = refl

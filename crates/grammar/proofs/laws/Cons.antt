@@ -1,5 +1,6 @@
 -- The law of cons.
 --   cons-law      its rule is lawful, and its size fits
+--   cons-plain    it is no except
 --   cons-lower    its steps lead to lower nodes
 -- Assumes nothing.
 use mathlib.Core.Path.{_≡_, refl, ap}
@@ -13,7 +14,7 @@ use Rattle.numbers.specs.Size.{Size, finite, endless, Some, times}
 use Rattle.grammar.specs.Checks.{fits}
 use Rattle.grammar.specs.Law.{Fit, flat, Lawful}
 use Rattle.grammar.specs.Rule.{reads}
-use Rattle.grammar.proofs.KindLaw.{fit-some, lower-both, KindLaw, Lower}
+use Rattle.grammar.proofs.KindLaw.{fit-some, lower-both, KindLaw, Lower, Plain}
 use native.Mathlib.Nat.{mul-le-mul}
 use Rattle.numbers.specs.Cons
 use Rattle.numbers.proofs.cons.Laws as Conses
@@ -62,3 +63,7 @@ cons-law = record {
 pub cons-lower : Lower cons
 unfolding consRule
 cons-lower v z h = let (ea, eb) = lower-both v (h .0) in (ltb-true (v .a) (v .own) ea, (ltb-true (v .b) (v .own) eb, tt))
+
+pub cons-plain : Plain cons
+unfolding consRule
+cons-plain a b p z = refl

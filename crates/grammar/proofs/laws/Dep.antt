@@ -1,5 +1,6 @@
 -- The law of dep.
 --   dep-law      its rule is lawful, and its size fits
+--   dep-plain    it is no except
 --   dep-lower    its steps lead to lower nodes
 -- Assumes nothing.
 use mathlib.Core.Path.{_≡_, refl, subst, ap}
@@ -16,7 +17,7 @@ use Rattle.grammar.specs.Law.{Fit, Under, flat, Lawful, Holds}
 use Rattle.numbers.proofs.Tests.{and-left, and-right}
 use Rattle.grammar.specs.Rule.{reads}
 use Rattle.grammar.specs.Kind.{Node, before}
-use Rattle.grammar.proofs.KindLaw.{fit-some, fit-plus, KindLaw, Lower}
+use Rattle.grammar.proofs.KindLaw.{fit-some, fit-plus, KindLaw, Lower, Plain}
 use mathlib.Core.List.{List·Memᴰ}
 use native.Mathlib.Nat.{le-refl, not-suc-le-zero, le-of-suc-le-suc}
 use lib.ListN.{length-take, length-drop}
@@ -195,3 +196,7 @@ dep-law = record {
 pub dep-lower : Lower dep
 unfolding depRule
 dep-lower v z h = (ltb-true (v .a) (v .own) (h .0), lower-under (v .own) (v .own) _ (le-refl (v .own)) (h .1 .1 .1 .0))
+
+pub dep-plain : Plain dep
+unfolding depRule
+dep-plain a b p z = refl

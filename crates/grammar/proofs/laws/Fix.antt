@@ -1,5 +1,6 @@
 -- The law of fix.
 --   fix-law      its rule is lawful, and its size fits
+--   fix-plain    it is no except
 --   fix-lower    its steps lead to lower nodes
 -- Assumes nothing.
 use mathlib.Core.Path.{_≡_, refl}
@@ -13,7 +14,7 @@ use Rattle.grammar.specs.Rule.{done, reads}
 use Rattle.grammar.specs.Law.{flat, Lawful}
 use Rattle.grammar.proofs.Tests.{is-endless}
 use Rattle.grammar.proofs.Trees.{spell-done, spell-reads}
-use Rattle.grammar.proofs.KindLaw.{KindLaw, Lower}
+use Rattle.grammar.proofs.KindLaw.{KindLaw, Lower, Plain}
 use Rattle.grammar.specs.kinds.Fix.{passRule, fix}
 
 pub pass-rule : (z : ℕ → Size) (count a : ℕ) → a < count → z a ≡ endless → Lawful z count (passRule a)
@@ -40,3 +41,7 @@ fix-law = record {
 pub fix-lower : Lower fix
 unfolding passRule
 fix-lower v z h = (ltb-true (v .a) (v .own) (h .0), tt)
+
+pub fix-plain : Plain fix
+unfolding passRule
+fix-plain a b p z = refl

@@ -1,5 +1,6 @@
 -- The law of nats.
 --   nats-law      its rule is lawful, and its size fits
+--   nats-plain    it is no except
 --   nats-lower    it steps nowhere
 -- Assumes nothing.
 use mathlib.Core.Path.{refl}
@@ -8,7 +9,7 @@ use Rattle.numbers.specs.Size.{Size}
 use Rattle.grammar.specs.Rule.{done, reads}
 use Rattle.grammar.specs.Law.{Lawful}
 use Rattle.grammar.proofs.Trees.{spell-done, spell-takes}
-use Rattle.grammar.proofs.KindLaw.{KindLaw, Lower}
+use Rattle.grammar.proofs.KindLaw.{KindLaw, Lower, Plain}
 use Rattle.grammar.specs.kinds.Nats.{natsRule, nats}
 
 nats-rule : (z : ℕ → Size) (count : ℕ) → Lawful z count natsRule
@@ -29,3 +30,7 @@ nats-law = record { sees = λ v z h. refl; lawful = λ v z r h. nats-rule z (v .
 pub nats-lower : Lower nats
 unfolding natsRule
 nats-lower v z h = tt
+
+pub nats-plain : Plain nats
+unfolding natsRule
+nats-plain a b p z = refl

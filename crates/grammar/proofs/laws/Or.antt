@@ -1,5 +1,6 @@
 -- The law of or.
 --   or-law      its rule is lawful, and its size fits
+--   or-plain    it is no except
 --   or-lower    its steps lead to lower nodes
 -- Assumes nothing.
 use mathlib.Core.Path.{_≡_, refl, subst}
@@ -12,7 +13,7 @@ use Rattle.numbers.specs.Size.{Size, finite, endless, Below, Some, plus}
 use Rattle.grammar.specs.Law.{Spells, Each, Down, flat, guarded, Lawful}
 use Rattle.grammar.specs.Rule.{Item, own, reads, Rule}
 use Rattle.grammar.proofs.Trees.{spell-done, spell-takes, spell-reads, read-pick, names-pick}
-use Rattle.grammar.proofs.KindLaw.{fit-some, fit-plus, lower-both, KindLaw, Lower}
+use Rattle.grammar.proofs.KindLaw.{fit-some, fit-plus, lower-both, KindLaw, Lower, Plain}
 use Rattle.numbers.specs.Or
 use Rattle.numbers.specs.Or.{PartBelow, turn}
 use Rattle.numbers.specs.declared.or.Part.{Part}
@@ -76,3 +77,7 @@ or-law = record {
 pub or-lower : Lower or
 unfolding orRule
 or-lower v z h = let (ea, eb) = lower-both v (h .0) in (ltb-true (v .a) (v .own) ea, (ltb-true (v .b) (v .own) eb, tt))
+
+pub or-plain : Plain or
+unfolding orRule
+or-plain a b p z = refl

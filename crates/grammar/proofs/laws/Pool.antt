@@ -1,5 +1,6 @@
 -- The law of pool.
 --   pool-law      its rule is lawful, and its size fits
+--   pool-plain    it is no except
 --   pool-lower    it steps nowhere
 --   pool-in       its words are within the pool; pool-at its word at a number
 -- Assumes nothing.
@@ -18,7 +19,7 @@ use Rattle.grammar.specs.Rule.{own, done, fails, reads}
 use Rattle.grammar.specs.Law.{Lawful, Holds}
 use Rattle.grammar.specs.Kind.{Node, before}
 use Rattle.grammar.proofs.Trees.{spell-done, spell-takes, spell-left, read-pick, names-pick}
-use Rattle.grammar.proofs.KindLaw.{KindLaw, Lower}
+use Rattle.grammar.proofs.KindLaw.{KindLaw, Lower, Plain}
 use Rattle.graph.specs.Ways.{has}
 use Rattle.grammar.specs.Checks.{different}
 use Rattle.grammar.proofs.Runs.{run-long, run-at}
@@ -70,3 +71,7 @@ pool-law = record {
 pub pool-lower : Lower pool
 unfolding poolRule
 pool-lower v z h = tt
+
+pub pool-plain : Plain pool
+unfolding poolRule
+pool-plain a b p z = refl

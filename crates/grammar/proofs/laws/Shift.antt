@@ -1,5 +1,6 @@
 -- The law of shift.
 --   shift-law      its rule is lawful, and its size fits
+--   shift-plain    it is no except
 --   shift-lower    its steps lead to lower nodes
 --   shift-small    it adds at most 2^32
 --   bare, shift-bare   its part is one of those kinds
@@ -17,7 +18,7 @@ use Rattle.grammar.specs.Rule.{done, reads}
 use Rattle.grammar.specs.Law.{flat, Lawful, Holds}
 use Rattle.grammar.specs.Kind.{Node}
 use Rattle.grammar.proofs.Trees.{spell-done, spell-reads}
-use Rattle.grammar.proofs.KindLaw.{KindLaw, Lower}
+use Rattle.grammar.proofs.KindLaw.{KindLaw, Lower, Plain}
 use Rattle.grammar.specs.kinds.Shift.{shiftRule, shift}
 
 shift-rule : (z : ℕ → Size) (count a k : ℕ) → a < count → Lawful z count (shiftRule (z a) a k)
@@ -52,3 +53,7 @@ shift-bare v z h = h .1 .1 .0
 pub shift-lower : Lower shift
 unfolding shiftRule
 shift-lower v z h = (ltb-true (v .a) (v .own) (h .0), tt)
+
+pub shift-plain : Plain shift
+unfolding shiftRule
+shift-plain a b p z = refl

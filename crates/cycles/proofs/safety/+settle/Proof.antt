@@ -115,6 +115,11 @@ pub +settle-spec : {M : Type 1} → statement M
       c .before .before .before .before .before .before .before .before .before .before .before .before .pre .1 .0,
       c .before .before .before .before .before .before .before .before .before .before .before .before .pre .1 .1 .0,
     ))
-    (λ c. omega (arith, c .before .before .before .before .before .before .before .before .before .before .before .before .before .before .pre .1 .0 .checked .few, c .before .before .before .before .before .before .before .before .before .before .before .before .before .before .pre .1 .1 .0))
+    (λ c. omega (
+      arith,
+      c .before .before .before .before .before .before .before .before .before .before .before .before .before .before .pre .1 .0 .checked
+          .few,
+      c .before .before .before .before .before .before .before .before .before .before .before .before .before .before .pre .1 .1 .0,
+    ))
     (λ c. now-marked _ (c .before .before .before .before .loop .inv .1) (c .before .steps-safe .ensures) (c .if5 .taken))
     (λ c. c .before .before .before .before .loop .inv .1)

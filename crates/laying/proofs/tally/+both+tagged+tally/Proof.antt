@@ -159,9 +159,11 @@ unfolding rules
     (walk-two _ _ _ _ (at-if1 .if1 .left) (items-by (at-pre .pre .1 .0) (at-match .match .keys6) (c .before .step2 .ensures)) refl)
     (c .both .ensures))
     (λ c. let at-match = c .before .before .before in let at-if1 = at-match .before .before .before .before .before in let at-pre = at-if1 .before in tally-by
-    _ (walk-two _ _ _ _ (at-if1 .if1 .left) (dep-items (at-pre .pre .1 .0) (at-match .match .keys7) (c .before .step3 .ensures endless)) refl) (c .both2 .ensures))
+    _ (walk-two _ _ _ _ (at-if1 .if1 .left) (dep-items (at-pre .pre .1 .0) (at-match .match .keys7) (c .before .step3 .ensures endless)) refl)
+    (c .both2 .ensures))
     (λ c. let at-match = c .before .before in let at-if1 = at-match .before .before .before .before .before in let at-pre = at-if1 .before in tally-by _
-    (walk-pass _ _ _ _ (at-if1 .if1 .left) (items-by (at-pre .pre .1 .0) (at-match .match .keys8) (part-at (c .before .split .ensures))) refl) (c .tally2 .ensures))
+    (walk-pass _ _ _ _ (at-if1 .if1 .left) (items-by (at-pre .pre .1 .0) (at-match .match .keys8) (part-at (c .before .split .ensures))) refl)
+    (c .tally2 .ensures))
     (λ c. let at-if1 = c .before .before .before .before .before .before in let at-pre = at-if1 .before in tally-by _
     (walk-pass _ _ _ _ (at-if1 .if1 .left) (items-by (at-pre .pre .1 .0) (c .before .match .keys9) refl) refl) (c .tally3 .ensures))
     (λ c. let at-if1 = c .before .before .before .before .before .before in let at-pre = at-if1 .before in tally-by _
