@@ -50,6 +50,8 @@ use Rattle.calling.specs.declared.state.State.{State}
 use Rattle.calling.specs.declared.row.Way.the-variants.{Write as Writes, Read as Reads}
 use Rattle.calling.specs.declared.calls.Call.{Call}
 use Rattle.calling.specs.declared.calls.Call.the-variants.{Check}
+use Rattle.cases.proofs.Values.{wrote-is}
+use Rattle.rows.proofs.Values.{wrote-row-is, got-row-is}
 
 pub told : {a b : List ℕ} → a ≡ b → {old last : List ℕ} {used r : ℕ} → Puts a old used last r → Puts b old used last r
 told e {old} {last} {used} {r} p = subst (λ (text : List ℕ). Puts text old used last r) e p
@@ -91,7 +93,7 @@ end-kept n e start = rw (e, start, start-kept n 0)
 
 module _ {t p : List ℕ} {i n : ℕ} {old last : List ℕ} {r : Written} (room : ℕ) (start : old ≡ startWords 0 room) (k : Wrote t p i n old last r) where
   answer : writes t p i n room ≡ r
-  answer = sym (k .is ∙ ap (writes t p i n) (ap length start ∙ start-length 0 room))
+  answer = sym (wrote-is k ∙ ap (writes t p i n) (ap length start ∙ start-length 0 room))
 
   pub wrote-done : {count : ℕ} → r ≡ Done count → cellsText count (take count last) ++ endText last count ≡ caseText t p i room n
   unfolding caseText writeText
@@ -110,7 +112,7 @@ module _ {t p : List ℕ} {i n : ℕ} {old last : List ℕ} {r : Written} (room 
 module _ {t p : List ℕ} {i : ℕ} {ws old last : List ℕ} {r : Rows.Row} (room : ℕ) (start : old ≡ startWords 0 room) where
   module _ (k : WroteRow t p i ws old last r) where
     row-answer : writesRow t p i room ws ≡ r
-    row-answer = sym (k .is ∙ ap (λ (m : ℕ). writesRow t p i m ws) (ap length start ∙ start-length 0 room))
+    row-answer = sym (wrote-row-is k ∙ ap (λ (m : ℕ). writesRow t p i m ws) (ap length start ∙ start-length 0 room))
 
     pub row-done : {items count : ℕ} → r ≡ DoneRow items count
         → itemsText items ++ (cellsText count (take count last) ++ endText last count) ≡ wayText Writes t p i room ws
@@ -128,7 +130,7 @@ module _ {t p : List ℕ} {i : ℕ} {ws old last : List ℕ} {r : Rows.Row} (roo
     long = ap length start ∙ start-length 0 room
 
     got-answer : readsRow t p i room ws ≡ r
-    got-answer = sym (k .is ∙ ap (λ (m : ℕ). readsRow t p i m ws) long)
+    got-answer = sym (got-row-is k ∙ ap (λ (m : ℕ). readsRow t p i m ws) long)
 
     pub got-done : {items count : ℕ} → r ≡ DoneRow items count
         → itemsText items ++ (cellsText count (take items last) ++ endText last items) ≡ wayText Reads t p i room ws

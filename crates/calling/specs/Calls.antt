@@ -64,7 +64,7 @@ onward (Item n k) rest = itemText n k ++ rest
 onward End rest = bytes "end\n"
 onward (NoNext r k) rest = refusedLine r k
 
--- asked less than f times; a row has no more items than cells
+-- asked at most f times; a row has no more items than cells, and the end is an ask too
 unfoldable pub asksBy : ℕ → List ℕ → List ℕ → ℕ → List ℕ → ℕ → List ℕ
 asksBy zero t p i row at = []
 asksBy (suc f) t p i row at = onward (nextOf t p i row at) (asksBy f t p i row (afterOf at (nextOf t p i row at)))

@@ -1,4 +1,5 @@
--- Demand 2, for every accepted table and every start in it: "the case of a number and the number of a case .. each undoes the other, and nothing else is accepted."
+-- Demand 2, for every accepted table and every start in it: of the case of a number and the number of a case each undoes the other, and nothing else is
+-- accepted.
 -- The theorems are about what `write` and `read` answer on every input (`writes`, `reads`: their promises). Each proof is a citation.
 --   case-some           every case has at least one cell
 --   case-written        a number asked for that has a case within the limits: `write` gives it

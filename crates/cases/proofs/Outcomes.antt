@@ -26,6 +26,7 @@ use Rattle.checked.proofs.Fitted.{fitted-cells}
 use Rattle.cases.specs.Write.{wrote, judged, walks, writes, leaves, Wrote}
 use Rattle.cases.specs.declared.writing.Written.{Written}
 use Rattle.cases.specs.declared.writing.Written.the-variants.{Done, Refused}
+use Rattle.cases.proofs.Values.{wrote-is}
 
 -- the count of an answer is within a room, and is that of the cells
 abbrev Tells : ℕ → List ℕ → Written → Type 0
@@ -54,7 +55,7 @@ module _ (t p : List ℕ) (i n room : ℕ) where
 
 module _ {t p : List ℕ} {i n : ℕ} {old last : List ℕ} {r : Written} (k : Wrote t p i n old last r) (count : ℕ) (e : r ≡ Done count) where
   tells : (count ≤ length old) × (count ≡ length (cells (walk (rulesOf t p) depth 0 i n)))
-  tells = subst (Tells (length old) (cells (walk (rulesOf t p) depth 0 i n))) (sym (k .is) ∙ e) (writes-tells t p i n (length old))
+  tells = subst (Tells (length old) (cells (walk (rulesOf t p) depth 0 i n))) (sym (wrote-is k) ∙ e) (writes-tells t p i n (length old))
 
   pub written-fits : count ≤ length old
   written-fits = tells .0

@@ -4,7 +4,7 @@
 use mathlib.Core.Path.{_≡_, refl}
 use mathlib.Core.List.{List, [], _∷_, map}
 use Prim.Native.Nat.{ℕ, _+_, _^_}
-use Rattle.grammar.specs.Verdict.{verdict, Answer, answer}
+use Rattle.grammar.specs.Verdict.{Answer, answer, checkSays}
 use Rattle.grammar.proofs.Opened.{checking}
 
 -- a table, its pool, and 01's number and node
@@ -12,10 +12,10 @@ pub data Checks : Type 0 where
   checks-as : List ℕ → List ℕ → ℕ → ℕ → Checks
 
 unfoldable pub asked : Checks → Answer
-asked (checks-as t p r k) = answer (verdict t p)
+asked (checks-as t p r k) = checkSays t p
 
 unfoldable pub expected : Checks → Answer
-expected (checks-as t p r k) = record { number = r; node = k }
+expected (checks-as t p r k) = record { refusal = r; node = k }
 
 -- lists of numbers
 abbrev pub L : List ℕ
@@ -74,5 +74,5 @@ tables =
     ∷ []
 
 pub checked : map asked tables ≡ map expected tables
-unfolding asked expected checking answer
+unfolding asked expected checking answer checkSays
 checked = refl

@@ -1,7 +1,7 @@
--- What `read` promises. 01: "Reading walks the same nodes from cells .. Of 13, 14 and 15 the first met is given. Then cells left over (15, whole-case reading), then 16."
+-- What `read` promises. 01: "Reading walks the same nodes from cells .. Of 13, 14 and 15 the first met is given. Then cells left over (15, whole-case reading only), then 16."
 --   found     the answer for what the walk reads of the cells
 --   reads     the answer for a table, its pool, a start node and the cells of a whole case
---   readOf    01's number, node and the number found, of an answer
+--   readOf    01's number, node and the number found, of an answer; readSays those of a call's
 -- Assumes nothing.
 use mathlib.Core.List.{List, [], _∷_}
 use Prim.Native.Nat.{ℕ, _^_}
@@ -20,7 +20,7 @@ use Rattle.walk.specs.Run.{Read, read, wrong, run}
 use Rattle.cases.specs.declared.reading.Found.{Found}
 use Rattle.cases.specs.declared.reading.Found.the-variants.{Number, Refused}
 
--- "cells left over (15, whole-case reading), then 16": a number not below 2^62
+-- "Then cells left over (15, whole-case reading only), then 16": a number not below 2^62
 unfoldable pub found : Read → Found
 found (read n q []) = pick (ltb n (2 ^ 62)) (Number n) (Refused NumberTooLarge 0)
 found (read n q (c ∷ cs)) = Refused NotACase 0
@@ -46,3 +46,6 @@ pub record ReadAnswer : Type 0 where
 unfoldable pub readOf : Found → ReadAnswer
 readOf (Number n) = record { refusal = 0; node = 0; number = n }
 readOf (Refused r k) = record { refusal = numberOf r; node = k; number = 0 }
+
+unfoldable pub readSays : List ℕ → List ℕ → ℕ → List ℕ → ReadAnswer
+readSays t p i cs = readOf (reads t p i cs)

@@ -10,7 +10,7 @@ pub use reading::read;
 pub use writing::Written;
 pub use writing::write;
 ghost use mathlib.Core.Path.{_≡_};
-ghost use Rattle.grammar.specs.Verdict.{verdict};
+ghost use Rattle.grammar.specs.Verdict.{answer, checkSays};
 use checked::prepared::PLAN;
 use checked::prepared::SMALL;
 use checked::prepared::SMALL_PLAN;
@@ -18,7 +18,7 @@ use checked::prepared::prepare;
 
 // Whether a table is a grammar: accepted, or the refusal and its node.
 pub fn check(table: &[u64], pool: &[u64]) -> Verdict
-    ensures { λ r. ⌜ r ≡ verdict (now (table .entry)) (now (pool .entry)) ⌝ }
+    ensures { λ r. ⌜ answer r ≡ checkSays (now (table .entry)) (now (pool .entry)) ⌝ }
 {
     if table.len() <= SMALL {
         let mut plan = [0u64; SMALL_PLAN];

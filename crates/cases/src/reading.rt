@@ -3,7 +3,7 @@ ghost use mathlib.Core.Path.{_≡_};
 ghost use Rattle.walk.specs.Run.{Read};
 ghost use Rattle.checked.specs.Prepared.{Blank, Planning};
 ghost use Rattle.checked.specs.Met.{Met};
-ghost use Rattle.cases.specs.Read.{found, finds, reads};
+ghost use Rattle.cases.specs.Read.{found, finds, reads, readOf, readSays};
 use checked::item::Got;
 use checked::item::got_at;
 use checked::prepared::PLAN;
@@ -65,7 +65,7 @@ fn read_with(plan: &mut [u64], table: &[u64], pool: &[u64], start: usize, cells:
 
 // The number of a case, from all its cells.
 pub fn read(table: &[u64], pool: &[u64], start: usize, cells: &[u64]) -> Found
-    ensures { λ r. ⌜ r ≡ reads (now (table .entry)) (now (pool .entry)) start (now (cells .entry)) ⌝ }
+    ensures { λ r. ⌜ readOf r ≡ readSays (now (table .entry)) (now (pool .entry)) start (now (cells .entry)) ⌝ }
 {
     if table.len() <= SMALL {
         let mut plan = [0u64; SMALL_PLAN];

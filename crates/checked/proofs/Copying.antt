@@ -1,6 +1,6 @@
--- Cells copied to the front of a buffer.
+-- Words copied to the front of a buffer.
 --   Copied, copied-none, copied-more, copied-all   the loop
---   kept-copied   cells that were all kept
+--   kept-copied   numbers that were all kept
 -- Assumes nothing.
 use mathlib.Core.Path.{_≡_, refl, ap, _∙_}
 use mathlib.Core.List.{List, [], _∷_}
@@ -45,7 +45,7 @@ copied-all {count = count} {i = i} c l = let e : i ≡ count = omega (arith, c .
 pub over-long : (new old : List ℕ) {last : List ℕ} → last ≡ over new old → length last ≡ length old
 over-long new old e = ap length e ∙ length-over new old
 
--- ---- cells that were all kept
+-- ---- numbers that were all kept
 module _ {cs kept : List ℕ} {count room : ℕ} (k : Kept cs kept count room) (l : count ≤ length kept) where
   front : take count kept ≡ cs
   front =

@@ -1,5 +1,5 @@
--- What a deciding walk has kept of the cells that it let through.
---   Kept    as many cells as the buffer had room for, and their count, which fits a room
+-- What a deciding walk has kept of the numbers that it read.
+--   Kept    as many numbers as the buffer had room for, and their count, which fits a room
 -- Assumes nothing.
 use mathlib.Core.Path.{_≡_}
 use mathlib.Core.List.{List}
@@ -7,8 +7,8 @@ use Prim.Native.Nat.{ℕ, _≤_}
 use lib.ListN.{length}
 use Rattle.walk.specs.Filled.{over}
 
-pub record Kept (cs kept : List ℕ) (count room : ℕ) : Type 0 where
+pub record Kept (ns kept : List ℕ) (count room : ℕ) : Type 0 where
   pub old : List ℕ
-  pub holds : kept ≡ over cs old
-  pub many : length cs ≡ count
+  pub holds : kept ≡ over ns old
+  pub many : length ns ≡ count
   pub fits : count ≤ room

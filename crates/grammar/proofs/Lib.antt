@@ -16,3 +16,4 @@ pub mod Places
 pub mod Known
 pub mod Opened
 pub mod Stepping
+pub mod Values

@@ -1,7 +1,7 @@
 -- Runs of the pool: what a loop over `count` words from `at` on shows of every one of them.
 --   Upto              what a loop has shown of each number below i
 --   every-run, run-every, run-fails   a test of every word, by places
---   lower-..., finite-run   the tests of a dep's seconds, by the facts that the code has
+--   lower-.., finite-run   the tests of a dep's seconds, by the facts that the code has
 -- Assumes nothing.
 use mathlib.Core.Path.{_≡_, refl, sym, _∙_}
 use mathlib.Core.Bool.{Bool, true, false, not, false≢true}

@@ -2,7 +2,7 @@
 --   pair-row   the row of or and of cons
 --   Tally      what a pass over nodes cs shows of them: f of them are finite, with the sum s as far as it is measured
 --   Passing    the pass over the first i words of a run
---   turn-...   a turn of it; end-... the row that it ends in
+--   turn-..    a turn of it; end-.. the row that it ends in
 -- Assumes nothing.
 use mathlib.Core.Path.{_≡_, refl, sym, _∙_}
 use mathlib.Core.Bool.{Bool, true, false, not, _&&_, false≢true}

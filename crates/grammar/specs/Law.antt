@@ -3,7 +3,7 @@
 --   endOf      the number that a path ends in
 --   itemsOf    what it passes
 --   Names      every part that a tree reads is one of the nodes xs
---   Meets      a tree that does not end at once: "every case has at least one cell"
+--   Meets      a tree that does not end at once: every case has at least one cell
 --   Down       a part's number is not above the rule's, or the step to it is guarded and it is below, or the rule skips
 --   Lawful     of one rule; z has the sizes
 --   Good       of all nodes below count

@@ -2,7 +2,7 @@
 --   leads       whether one node leads to another, as a test: `proofs` has the theorem that it agrees with paths of any length
 --   unguarded, exceptOnCycle   the lowest node that breaks rule 9, rule 10
 --   verdict     accepted, or the refusal and the node
---   answer      01's number and node of a verdict
+--   answer      01's number and node of a verdict; checkSays those of a table's
 -- Assumes nothing.
 use mathlib.Core.Bool.{Bool, true, false, _&&_}
 use mathlib.Core.List.{List}
@@ -48,9 +48,12 @@ verdict t p = pick (lengths t p) (settled t p (scan t p (nodes t))) (Refused Len
 
 -- ---- 01's number and node: "A refusal returns its number, a node for 1 to 10"
 pub record Answer : Type 0 where
-  pub number : ℕ
+  pub refusal : ℕ
   pub node : ℕ
 
 unfoldable pub answer : Verdict → Answer
-answer Accepted = record { number = 0; node = 0 }
-answer (Refused r k) = record { number = numberOf r; node = k }
+answer Accepted = record { refusal = 0; node = 0 }
+answer (Refused r k) = record { refusal = numberOf r; node = k }
+
+unfoldable pub checkSays : List ℕ → List ℕ → Answer
+checkSays t p = answer (verdict t p)

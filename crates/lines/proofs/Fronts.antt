@@ -1,6 +1,6 @@
 -- A list over the front of another: new ++ drop (length new) old.
---   front-none, front-more, front-all    put there one by one
---   front-length                         the length stays
+--   front-more, front-all   put there one by one
+--   front-length            the length stays
 -- Assumes nothing.
 use mathlib.Core.Path.{_≡_}
 use mathlib.Core.List.{List, _++_}

@@ -1,4 +1,4 @@
--- A joined number in one machine word. Inside a reading walk "numbers are exact: under except a part may have number 2^62 while
+-- A joined number in one machine word. "Numbers inside the walk are exact: under except a part may have number 2^62 while
 -- the case's own number is 2^62 - 1". Each visit of a walk takes off at most one, and a walk is at most 200 visits deep.
 --   limit   the bound below which a joined number is kept exactly
 --   capped  the number itself below the limit, Big from there on

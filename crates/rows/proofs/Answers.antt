@@ -28,6 +28,7 @@ use Rattle.rows.specs.declared.answer.Row.the-variants.{Done, Refused}
 use Rattle.rows.specs.declared.reader.Next.the-variants.{End, Refused as Not-handed}
 use Rattle.rows.proofs.Turns.{done-row}
 use Rattle.rows.proofs.Cuts.{gathered-fits, turns-cut, cut-turns, gather-cut, cut-gather, cut-stopped, asks-cut}
+use Rattle.rows.proofs.Values.{wrote-row-is, got-row-is}
 
 -- an answer by what was gathered
 answered-all : (used : ℕ) (x : Gathered) {m c : ℕ} → answered used x ≡ Done m c → (ns : List ℕ) × (x ≡ all ns) × (length ns ≡ m) × (used ≡ c)
@@ -67,14 +68,14 @@ module _ (t p : List ℕ) (a : verdict t p ≡ Accepted) (i : ℕ) (l : i < node
       → WroteRow t p i ns old last w → (w ≡ Done (length ns) (length (joined css))) × (take (length (joined css)) last ≡ joined css)
   wrote-cut {ns} {css} cut {old} {last} {w} f h =
       let (e, same) = turns-cut t p a i l (length old) cut f in
-      let is : w ≡ Done (length ns) (length (joined css)) = h .is ∙ writes-row-is (length old) ns ∙ e in
+      let is : w ≡ Done (length ns) (length (joined css)) = wrote-row-is h ∙ writes-row-is (length old) ns ∙ e in
       let holds : last ≡ over (joined css) old = h .holds ∙ ap (λ (x : Row). leaves x (rowOf g i ns) old) is ∙ ap (λ (xs : List ℕ). over xs old) same in
       (is, counted (joined css) old holds refl f)
 
   pub cut-wrote : {ns old last : List ℕ} {m c : ℕ} → WroteRow t p i ns old last (Done m c)
       → (css : List (List ℕ)) × Cut g i ns css × (m ≡ length ns) × (c ≡ length (joined css)) × (take c last ≡ joined css)
   cut-wrote {ns} {old} {last} {m} {c} h =
-      let e : inTurn g i (length old) ns ≡ Done m c = sym (h .is ∙ writes-row-is (length old) ns) in
+      let e : inTurn g i (length old) ns ≡ Done m c = sym (wrote-row-is h ∙ writes-row-is (length old) ns) in
       let (css, cut, same) = cut-turns t p a i l (length old) ns e in
       let (many, used, fits) = done-row g i (length old) ns e in
       let long : c ≡ length (joined css) = used ∙ ap length (sym same) in
@@ -86,7 +87,7 @@ module _ (t p : List ℕ) (a : verdict t p ≡ Accepted) (i : ℕ) (l : i < node
       → GotRow t p i (joined css) old last r → (r ≡ Done (length ns) (length (joined css))) × (take (length ns) last ≡ ns)
   got-cut {ns} {css} cut {old} {last} {r} f h =
       let e = gather-cut t p a i l (length old) cut f in
-      let is : r ≡ Done (length ns) (length (joined css)) = h .is ∙ reads-row-is (length old) (joined css) ∙ ap (answered (length (joined css))) e in
+      let is : r ≡ Done (length ns) (length (joined css)) = got-row-is h ∙ reads-row-is (length old) (joined css) ∙ ap (answered (length (joined css))) e in
       let holds : last ≡ over ns old =
       h .holds ∙ ap (λ (x : Row). leaves x (gotten (gather g i (length old) (joined css))) old) is ∙ ap (λ (x : Gathered). over (gotten x) old) e in
       (is, counted ns old holds refl f)
@@ -94,7 +95,7 @@ module _ (t p : List ℕ) (a : verdict t p ≡ Accepted) (i : ℕ) (l : i < node
   pub cut-got : {cs old last : List ℕ} {m c : ℕ} → GotRow t p i cs old last (Done m c)
       → (css : List (List ℕ)) × Cut g i (take m last) css × (joined css ≡ cs) × (length (take m last) ≡ m) × (length cs ≡ c)
   cut-got {cs} {old} {last} {m} {c} h =
-      let (ns, e, many, used) = answered-all (length cs) (gather g i (length old) cs) (sym (h .is ∙ reads-row-is (length old) cs)) in
+      let (ns, e, many, used) = answered-all (length cs) (gather g i (length old) cs) (sym (got-row-is h ∙ reads-row-is (length old) cs)) in
       let (css, cut, same) = cut-gather t p a i l (length old) cs ns e in
       let fits : length ns ≤ length old = gathered-fits g i (length old) cs e in
       let holds : last ≡ over ns old = h .holds ∙ ap (λ (x : Gathered). over (gotten x) old) e in
@@ -105,7 +106,7 @@ module _ (t p : List ℕ) (a : verdict t p ≡ Accepted) (i : ℕ) (l : i < node
       → (ns : List ℕ) × (css : List (List ℕ)) × (rest : List ℕ) × Cut g i ns css × (row ≡ joined css ++ rest) × (item ≡ length ns) ×
       (next g i rest ≡ Not-handed r 0)
   got-stopped {row} {old} {last} {r} {item} h f =
-      cut-stopped t p a i l (length old) row item f (answered-stopped (length row) (gather g i (length old) row) (sym (h .is ∙ reads-row-is (length old) row)))
+      cut-stopped t p a i l (length old) row item f (answered-stopped (length row) (gather g i (length old) row) (sym (got-row-is h ∙ reads-row-is (length old) row)))
 
   -- ---- the reader
   module _ {ns : List ℕ} {css : List (List ℕ)} (cut : Cut g i ns css) (row : List ℕ) {m : ℕ} (many : m ≡ length ns) where

@@ -1,4 +1,5 @@
 -- What the proofs of the row calls and of the reader cite.
+pub mod Values
 pub mod Turns
 pub mod Gathering
 pub mod Cuts

@@ -1,6 +1,6 @@
 -- What Ashetdune promises, in one place: the three demands for the public calls, that each promise allows one outcome, and the worked cases.
--- `check` answers `verdict`; `write` promises `Wrote`, `read` answers `reads`; `write_row` and `read_row` promise `WroteRow` and `GotRow`; the reader answers `strideOf`.
--- None of them has a `requires`. Every statement is in full, every proof one citation.
+-- `check` says `checkSays`, `read` says `readSays`; `write` promises `Wrote`, `write_row` and `read_row` promise `WroteRow` and `GotRow`, the reader promises
+-- `Strode`: each in 01's numbers. None of them has a `requires`. Every statement is in full, every proof one citation.
 -- Assumes nothing.
 use mathlib.Core.Path.{_≡_}
 use mathlib.Core.List.{List, [], _∷_, _++_, map}
@@ -9,7 +9,8 @@ use lib.ListN.{length, take}
 use Rattle.numbers.specs.Size.{Below}
 use Rattle.grammar.specs.Table.{nodes}
 use Rattle.grammar.specs.Sizes.{sizeAt, sizes}
-use Rattle.grammar.specs.Verdict.{verdict}
+use Rattle.grammar.specs.Verdict.{verdict, answer, checkSays}
+use Rattle.grammar.specs.declared.refusal.Verdict.{Verdict}
 use Rattle.grammar.specs.declared.refusal.Refusal.{Refusal}
 use Rattle.grammar.specs.declared.refusal.Refusal.the-variants.{NotACase}
 use Rattle.grammar.specs.declared.refusal.Verdict.the-variants.{Accepted}
@@ -18,7 +19,8 @@ use Rattle.walk.specs.Walk.{cell, walk}
 use Rattle.walk.specs.Room.{Case}
 use Rattle.checked.specs.Fits.{Asked}
 use Rattle.cases.specs.Write.{Wrote}
-use Rattle.cases.specs.Read.{reads}
+use Rattle.cases.specs.Read.{reads, readOf, readSays}
+use Rattle.cases.specs.declared.reading.Found.{Found}
 use Rattle.cases.specs.declared.writing.Written.{Written}
 use Rattle.cases.specs.declared.writing.Written.the-variants.{Done, Refused}
 use Rattle.cases.specs.declared.reading.Found.the-variants.{Number, Refused as Not-found}
@@ -28,19 +30,29 @@ use Rattle.cases.proofs.Worked as Tables
 use Rattle.cases.proofs.WorkedCases as Cases
 use Rattle.rows.specs.WriteRow.{WroteRow}
 use Rattle.rows.specs.ReadRow.{GotRow}
-use Rattle.rows.specs.Reader.{strideOf}
+use Rattle.rows.specs.Reader.{strideOf, Strode}
 use Rattle.rows.specs.Cut.{Cut, joined, handOut, asks}
 use Rattle.rows.specs.declared.answer.Row.{Row}
 use Rattle.rows.specs.declared.answer.Row.the-variants.{Done as Row-done, Refused as Row-refused}
+use Rattle.rows.specs.declared.reader.Next.{Next}
 use Rattle.rows.specs.declared.reader.Next.the-variants.{End}
 use Rattle.rows.proofs.OneList as One-list
 use Rattle.rows.proofs.Unique as Unique
 use Rattle.rows.proofs.WorkedRows as Rows
 use Rattle.rows.proofs.Sides as Sides
 
--- ---- Demand 1. "Every table, number and row of cells gets an answer .. a refusal changes no lent cell": one outcome for every input (`Unique` has the same of
--- `check`, `read` and the reader, whose answers are equations), and a refusal's buffer is as it was.
+-- ---- Demand 1. Every table, number and row of cells gets an answer, and a refusal changes no lent cell: one outcome for every input, and a refusal's
+-- buffer is as it was.
 module _ {t p : List ℕ} {i : ℕ} where
+  one-verdict : {v w : Verdict} → answer v ≡ checkSays t p → answer w ≡ checkSays t p → v ≡ w
+  one-verdict e f = Unique.one-verdict t p e f
+
+  one-reading : {cs : List ℕ} {r r' : Found} → readOf r ≡ readSays t p i cs → readOf r' ≡ readSays t p i cs → r ≡ r'
+  one-reading {cs} e f = Unique.one-reading t p i cs e f
+
+  one-stride : {row : List ℕ} {at : ℕ} {n n' : Next} {to to' : ℕ} → Strode t p i row at n to → Strode t p i row at n' to' → (n ≡ n') × (to ≡ to')
+  one-stride {row} {at} h k = Unique.one-stride t p i row at h k
+
   one-writing : {n : ℕ} {old last last' : List ℕ} {r r' : Written} → Wrote t p i n old last r → Wrote t p i n old last' r' → (r ≡ r') × (last ≡ last')
   one-writing h k = Unique.one-writing t p i h k
 
@@ -61,7 +73,7 @@ module _ {t p : List ℕ} {i : ℕ} where
 
 -- ---- For every accepted table and every start in it
 module _ (t p : List ℕ) (a : verdict t p ≡ Accepted) (i : ℕ) (l : i < nodes t) where
-  -- ---- Demand 2. "the case of a number and the number of a case .. each undoes the other, and nothing else is accepted"
+  -- ---- Demand 2. Of the case of a number and the number of a case each undoes the other, and nothing else is accepted.
   case-written : {n : ℕ} {cs old last : List ℕ} {r : Written} → Asked (rulesOf t p i .size) n → Case (rulesOf t p) i n cs → length cs ≤ length old
       → Wrote t p i n old last r → (r ≡ Done (length cs)) × (take (length cs) last ≡ cs)
   case-written q c f h = Sides.case-written t p a i l q c f h
@@ -82,7 +94,7 @@ module _ (t p : List ℕ) (a : verdict t p ≡ Accepted) (i : ℕ) (l : i < node
   every-number : (n : ℕ) → Below n (sizeAt (sizes t p) i) → (d : ℕ) × (cs : List ℕ) × (walk (rulesOf t p) d 0 i n ≡ map cell cs)
   every-number = Ends.every-number t p a i l
 
-  -- ---- Demand 3. "read back as exactly that list; no other list writes the same row; no case is the beginning of a different case"
+  -- ---- Demand 3. A row reads back as exactly its list; no other list writes the same row; no case is the beginning of a different case.
   no-beginning : (m n : ℕ) (cs more : List ℕ) → reads t p i cs ≡ Number m → reads t p i (cs ++ more) ≡ Number n → (more ≡ []) × (m ≡ n)
   no-beginning = Both-sides.no-beginning t p a i l
 
@@ -111,8 +123,12 @@ module _ (t p : List ℕ) (a : verdict t p ≡ Accepted) (i : ℕ) (l : i < node
 tables : map Tables.asked Tables.tables ≡ map Tables.expected Tables.tables
 tables = Tables.checked
 
-cases : map Cases.asked Cases.cases ≡ map Cases.expected Cases.cases
+-- the thirteen that 01 marks P
+cases : map (map Cases.asked) Cases.marked ≡ map (map Cases.expected) Cases.marked
 cases = Cases.worked
+
+other-cases : map Cases.asked Cases.others ≡ map Cases.expected Cases.others
+other-cases = Cases.others-worked
 
 rows : map Rows.asked Rows.rows ≡ map Rows.expected Rows.rows
 rows = Rows.worked

@@ -1,5 +1,5 @@
--- Demand 3, for one accepted grammar and one start: "cases of any list of numbers written one after another with no marks between read back as exactly that list;
--- no other list writes the same row; no case is the beginning of a different case."
+-- Demand 3, for one accepted grammar and one start: cases of any list of numbers, written one after another with no marks between, read back as exactly
+-- that list; no other list writes the same row; no case is the beginning of a different case.
 -- The theorems are about what `write_row`, `read_row` and the reader promise on every input (`WroteRow`, `GotRow`, `strideOf`). Each proof is a citation.
 --   row-written            numbers that have cases within the limits, in a buffer that is long enough: `write_row` gives the cases, one after another
 --   written-then-read      what `write_row` gives, `read_row` reads back as exactly that list
@@ -9,7 +9,7 @@
 --   only-cuts, one-cut     a row that is read is cut into cases, and a row can be cut in one way only
 --   case-handed            wherever a case stands, the reader gives its number and stops right after it
 --   reader-done, reader-refused   the reader, asked again and again, gives what row reading gives, item by item, place by place
--- "No case is the beginning of a different case" is `no-beginning` of `Rattle.cases.proofs.BothSides`.
+-- That no case is the beginning of a different case is `no-beginning` of `Rattle.cases.proofs.BothSides`.
 -- Assumes nothing.
 use mathlib.Core.Path.{_≡_, sym, ap, _∙_}
 use mathlib.Core.List.{List, _++_}

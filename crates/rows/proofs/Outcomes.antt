@@ -32,6 +32,7 @@ use Rattle.rows.specs.declared.answer.Row.the-variants.{Done, Refused}
 use Rattle.rows.specs.declared.reader.Next.the-variants.{Item, Refused as Not-handed}
 use Rattle.rows.proofs.Turns.{done-row}
 use Rattle.rows.proofs.Cuts.{gathered-fits, case-front}
+use Rattle.rows.proofs.Values.{wrote-row-is, got-row-is}
 
 -- ---- an answer that is done: the table is accepted, and the start is in it
 judged-done : (v : Verdict) (r : Row) {m c : ℕ} → judged v r ≡ Done m c → r ≡ Done m c
@@ -54,7 +55,7 @@ module _ {t p : List ℕ} {i : ℕ} where
     written =
         done-row (rulesOf t p) i (length old) ns
         (started-done (ltb i (nodes t)) (inTurn (rulesOf t p) i (length old) ns) (judged-done (verdict t p) (writesRowPlanned t p i (length old) ns)
-        (sym (h .is) ∙ e)))
+        (sym (wrote-row-is h) ∙ e)))
 
     pub row-size : c ≡ length (rowOf (rulesOf t p) i ns)
     row-size = written .1
@@ -74,7 +75,7 @@ module _ {t p : List ℕ} {i : ℕ} where
     read =
         let x = gather (rulesOf t p) i (length old) cs in
         answered-size (length cs) (length old) x (λ ns f. gathered-fits (rulesOf t p) i (length old) cs f)
-        (started-done (ltb i (nodes t)) (answered (length cs) x) (judged-done (verdict t p) (readsRowPlanned t p i (length old) cs) (sym (h .is) ∙ e)))
+        (started-done (ltb i (nodes t)) (answered (length cs) x) (judged-done (verdict t p) (readsRowPlanned t p i (length old) cs) (sym (got-row-is h) ∙ e)))
 
     pub got-size : m ≡ length (gotten (gather (rulesOf t p) i (length old) cs))
     got-size = read .0

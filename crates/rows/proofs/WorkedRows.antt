@@ -11,10 +11,10 @@ use Rattle.checked.specs.Fits.{fitted}
 use Rattle.checked.specs.Item.{frontOf}
 use Rattle.cases.proofs.Worked.{L}
 use Rattle.rows.specs.Row.{RowAnswer, rowAnswer}
-use Rattle.rows.specs.WriteRow.{writesRowPlanned, writesRow}
+use Rattle.rows.specs.WriteRow.{writesRowPlanned, writesRow, writeRowSays}
 use Rattle.rows.specs.WriteRow as Written
-use Rattle.rows.specs.ReadRow.{gather, gotten, readsRowPlanned, readsRow}
-use Rattle.rows.specs.Reader.{next, nextPlanned, nextOf, NextAnswer, nextAnswer}
+use Rattle.rows.specs.ReadRow.{gather, gotten, readsRowPlanned, readsRow, readRowSays}
+use Rattle.rows.specs.Reader.{next, nextPlanned, nextOf, NextAnswer, nextAnswer, nextSays}
 
 -- a table, a start node, a room, and numbers with what their row is; a room and cells with what they read as; a row and a place with what the reader says
 pub data Worked : Type 0 where
@@ -22,17 +22,17 @@ pub data Worked : Type 0 where
   reads-as : List ℕ → ℕ → ℕ → List ℕ → List ℕ → List ℕ → Worked
   hands-as : List ℕ → ℕ → List ℕ → ℕ → List ℕ → Worked
 
--- refusal, node, item, items, cells; refusal, node, items, cells, number
+-- refusal, node, item, items, cells; the same and the number
 abbrev told : RowAnswer → List ℕ
 told r = r .refusal ∷ r .node ∷ r .item ∷ r .items ∷ r .cells ∷ []
 
 abbrev handed : NextAnswer → List ℕ
-handed x = x .refusal ∷ x .node ∷ x .items ∷ x .cells ∷ x .number ∷ []
+handed x = x .refusal ∷ x .node ∷ x .item ∷ x .items ∷ x .cells ∷ x .number ∷ []
 
 unfoldable pub asked : Worked → List (List ℕ)
-asked (writes-as t i room ns r cs) = told (rowAnswer (writesRow t [] i room ns)) ∷ Written.rowOf (rulesOf t []) i ns ∷ []
-asked (reads-as t i room cs r ns) = told (rowAnswer (readsRow t [] i room cs)) ∷ gotten (gather (rulesOf t []) i room cs) ∷ []
-asked (hands-as t i row at x) = handed (nextAnswer (nextOf t [] i row at)) ∷ []
+asked (writes-as t i room ns r cs) = told (writeRowSays t [] i room ns) ∷ Written.rowOf (rulesOf t []) i ns ∷ []
+asked (reads-as t i room cs r ns) = told (readRowSays t [] i room cs) ∷ gotten (gather (rulesOf t []) i room cs) ∷ []
+asked (hands-as t i row at x) = handed (nextSays t [] i row at) ∷ []
 
 unfoldable pub expected : Worked → List (List ℕ)
 expected (writes-as t i room ns r cs) = r ∷ cs ∷ []
@@ -64,15 +64,16 @@ rows =
     ∷ reads-as (1 ∷ 0 ∷ 0 ∷ []) 0 1 (7 ∷ 4611686018427387904 ∷ []) (16 ∷ 0 ∷ 1 ∷ 0 ∷ 0 ∷ []) []
     ∷ reads-as L 5 2 L-row (14 ∷ 0 ∷ 2 ∷ 0 ∷ 0 ∷ []) []
     -- the reader at each place of L's row, at its end and past it, and within a case
-    ∷ hands-as L 5 L-row 0 (0 ∷ 0 ∷ 1 ∷ 4 ∷ 1 ∷ [])
-    ∷ hands-as L 5 L-row 4 (0 ∷ 0 ∷ 1 ∷ 2 ∷ 0 ∷ [])
-    ∷ hands-as L 5 L-row 6 (0 ∷ 0 ∷ 1 ∷ 4 ∷ 3 ∷ [])
-    ∷ hands-as L 5 L-row 10 (0 ∷ 0 ∷ 0 ∷ 0 ∷ 0 ∷ [])
-    ∷ hands-as L 5 L-row 99 (0 ∷ 0 ∷ 0 ∷ 0 ∷ 0 ∷ [])
-    ∷ hands-as L 5 L-row 9 (15 ∷ 0 ∷ 0 ∷ 0 ∷ 0 ∷ [])
-    ∷ hands-as L 6 L-row 10 (11 ∷ 0 ∷ 0 ∷ 0 ∷ 0 ∷ [])
+    ∷ hands-as L 5 L-row 0 (0 ∷ 0 ∷ 0 ∷ 1 ∷ 4 ∷ 1 ∷ [])
+    ∷ hands-as L 5 L-row 4 (0 ∷ 0 ∷ 0 ∷ 1 ∷ 2 ∷ 0 ∷ [])
+    ∷ hands-as L 5 L-row 6 (0 ∷ 0 ∷ 0 ∷ 1 ∷ 4 ∷ 3 ∷ [])
+    ∷ hands-as L 5 L-row 10 (0 ∷ 0 ∷ 0 ∷ 0 ∷ 0 ∷ 0 ∷ [])
+    ∷ hands-as L 5 L-row 99 (0 ∷ 0 ∷ 0 ∷ 0 ∷ 0 ∷ 0 ∷ [])
+    ∷ hands-as L 5 L-row 9 (15 ∷ 0 ∷ 0 ∷ 0 ∷ 0 ∷ 0 ∷ [])
+    ∷ hands-as L 6 L-row 10 (11 ∷ 0 ∷ 0 ∷ 0 ∷ 0 ∷ 0 ∷ [])
     ∷ []
 
 pub worked : map asked rows ≡ map expected rows
-unfolding asked expected walking fitted frontOf rowAnswer writesRowPlanned writesRow Written.inTurn Written.rowOf gather readsRowPlanned readsRow next nextPlanned nextOf nextAnswer
+unfolding asked expected walking fitted frontOf rowAnswer writesRowPlanned writesRow writeRowSays Written.inTurn Written.rowOf gather readsRowPlanned readsRow
+    readRowSays next nextPlanned nextOf nextAnswer nextSays
 worked = refl

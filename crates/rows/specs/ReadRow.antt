@@ -2,7 +2,7 @@
 --   Gathered    all numbers of a row, or the refusal and the item that stops it
 --   gather      of cells, with a room for numbers
 --   NumbersOver the same, over a buffer
---   readsRow    the answer for a table, its pool, a start node, a room and the cells
+--   readsRow    the answer for a table, its pool, a start node, a room and the cells; readRowSays its values
 --   GotRow      the answer and the buffer's last words, for every input
 -- Assumes nothing.
 use mathlib.Core.Path.{_≡_}
@@ -19,7 +19,7 @@ use Rattle.grammar.specs.Rule.{Rule}
 use Rattle.grammar.specs.Sizes.{rulesOf}
 use Rattle.walk.specs.Filled.{over}
 use Rattle.checked.specs.Item.{Front, number, refused, front}
-use Rattle.rows.specs.Row.{judged, leaves}
+use Rattle.rows.specs.Row.{judged, leaves, RowAnswer, rowAnswer}
 use Rattle.rows.specs.declared.answer.Row.{Row}
 use Rattle.rows.specs.declared.answer.Row.the-variants.{Done, Refused}
 
@@ -69,8 +69,11 @@ readsRowPlanned t p i room cs = pick (ltb i (nodes t)) (answered (length cs) (ga
 unfoldable pub readsRow : List ℕ → List ℕ → ℕ → ℕ → List ℕ → Row
 readsRow t p i room cs = judged (verdict t p) (readsRowPlanned t p i room cs)
 
+unfoldable pub readRowSays : List ℕ → List ℕ → ℕ → ℕ → List ℕ → RowAnswer
+readRowSays t p i room cs = rowAnswer (readsRow t p i room cs)
+
 pub record GotRow (t p : List ℕ) (i : ℕ) (cs old last : List ℕ) (r : Row) : Type 0 where
-  pub is : r ≡ readsRow t p i (length old) cs
+  pub says : rowAnswer r ≡ readRowSays t p i (length old) cs
   pub holds : last ≡ leaves r (gotten (gather (rulesOf t p) i (length old) cs)) old
 
 -- of an accepted table

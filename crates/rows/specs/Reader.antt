@@ -3,8 +3,10 @@
 --   nextOf     the answer at a place of a row
 --   afterOf    the place after it
 --   strideOf   both
---   nextAnswer 01's number, node and counts of an answer
+--   nextAnswer 01's number, node, item and counts of an answer; nextSays those of a call's
+--   Strode     the answer and the place after it, for every input
 -- Assumes nothing.
+use mathlib.Core.Path.{_≡_}
 use mathlib.Core.List.{List, [], _∷_}
 use Prim.Native.Nat.{ℕ, _+_, _-_}
 use lib.Dec.{ltb}
@@ -56,14 +58,24 @@ strideOf t p i row at = record { answer = nextOf t p i row at; at = afterOf at (
 abbrev pub stridePlanned : List ℕ → List ℕ → ℕ → List ℕ → ℕ → Stride
 stridePlanned t p i row at = record { answer = nextPlanned t p i row at; at = afterOf at (nextPlanned t p i row at) }
 
+-- an item is handed out by itself, so its number in the call is 0
 pub record NextAnswer : Type 0 where
   pub refusal : ℕ
   pub node : ℕ
+  pub item : ℕ
   pub items : ℕ
   pub cells : ℕ
   pub number : ℕ
 
 unfoldable pub nextAnswer : Next → NextAnswer
-nextAnswer (Item n k) = record { refusal = 0; node = 0; items = 1; cells = k; number = n }
-nextAnswer End = record { refusal = 0; node = 0; items = 0; cells = 0; number = 0 }
-nextAnswer (Refused r k) = record { refusal = numberOf r; node = k; items = 0; cells = 0; number = 0 }
+nextAnswer (Item n k) = record { refusal = 0; node = 0; item = 0; items = 1; cells = k; number = n }
+nextAnswer End = record { refusal = 0; node = 0; item = 0; items = 0; cells = 0; number = 0 }
+nextAnswer (Refused r k) = record { refusal = numberOf r; node = k; item = 0; items = 0; cells = 0; number = 0 }
+
+unfoldable pub nextSays : List ℕ → List ℕ → ℕ → List ℕ → ℕ → NextAnswer
+nextSays t p i row at = nextAnswer (nextOf t p i row at)
+
+-- the answer n at a place of a row, and the place after it
+pub record Strode (t p : List ℕ) (i : ℕ) (row : List ℕ) (at : ℕ) (n : Next) (to : ℕ) : Type 0 where
+  pub says : nextAnswer n ≡ nextSays t p i row at
+  pub goes : to ≡ afterOf at (nextOf t p i row at)

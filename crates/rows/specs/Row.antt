@@ -1,4 +1,4 @@
--- Answers of row calls. 01: "the first that is refused stops the call, which returns its refusal and its item number from 0 (item 0 for refusals 1 to 11).
+-- Answers of row calls. 01: "the first that is refused stops the call, which returns its refusal and its item number from 0 (item 0 for refusals 1 to 11) ..
 -- Successful row calls return the items and cells used."
 --   judged     a refused table is refused at item 0
 --   leaves     a buffer's last words: "no lent word changes" by a refusal, and success changes no more than it must

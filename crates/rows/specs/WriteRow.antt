@@ -1,8 +1,8 @@
 -- What `write_row` promises. 01: "items in order; the first that is refused stops the call .. Writing: 12, then the walk with the room left .. A row of no items is done."
 --   inTurn      the answer for the numbers, with a room
 --   RowOver     the same, over a buffer
---   rowOf       the cases of the numbers "written one after another with no marks between"
---   writesRow   the answer for a table, its pool, a start node, a room and the numbers
+--   rowOf       the cases of the numbers, one after another with no marks between
+--   writesRow   the answer for a table, its pool, a start node, a room and the numbers; writeRowSays its values
 --   WroteRow    the answer and the buffer's last words, for every input
 -- Assumes nothing.
 use mathlib.Core.Path.{_≡_}
@@ -21,7 +21,7 @@ use Rattle.walk.specs.Filled.{over}
 use Rattle.checked.specs.Fits.{fitted}
 use Rattle.checked.specs.declared.fits.Fit.{Fit}
 use Rattle.checked.specs.declared.fits.Fit.the-variants.{Cells, Not}
-use Rattle.rows.specs.Row.{judged, leaves}
+use Rattle.rows.specs.Row.{judged, leaves, RowAnswer, rowAnswer}
 use Rattle.rows.specs.declared.answer.Row.{Row}
 use Rattle.rows.specs.declared.answer.Row.the-variants.{Done, Refused}
 
@@ -56,8 +56,11 @@ writesRowPlanned t p i room ns = pick (ltb i (nodes t)) (inTurn (rulesOf t p) i 
 unfoldable pub writesRow : List ℕ → List ℕ → ℕ → ℕ → List ℕ → Row
 writesRow t p i room ns = judged (verdict t p) (writesRowPlanned t p i room ns)
 
+unfoldable pub writeRowSays : List ℕ → List ℕ → ℕ → ℕ → List ℕ → RowAnswer
+writeRowSays t p i room ns = rowAnswer (writesRow t p i room ns)
+
 pub record WroteRow (t p : List ℕ) (i : ℕ) (ns old last : List ℕ) (r : Row) : Type 0 where
-  pub is : r ≡ writesRow t p i (length old) ns
+  pub says : rowAnswer r ≡ writeRowSays t p i (length old) ns
   pub holds : last ≡ leaves r (rowOf (rulesOf t p) i ns) old
 
 -- of an accepted table

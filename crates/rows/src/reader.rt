@@ -2,7 +2,7 @@
 // thin over the covered slice-and-place function.
 ghost use mathlib.Core.Path.{_≡_};
 ghost use Rattle.checked.specs.Prepared.{Blank, Planning};
-ghost use Rattle.rows.specs.Reader.{nextOf, afterOf, strideOf, stridePlanned};
+ghost use Rattle.rows.specs.Reader.{strideOf, stridePlanned, Strode};
 use checked::item::Item;
 use checked::item::item_at;
 use checked::prepared::PLAN;
@@ -109,10 +109,8 @@ impl<'a> Reader<'a> {
 
     // The answer at the reader's place, and the reader moves past it.
     pub fn next(&mut self, table: &[u64], pool: &[u64], start: usize) -> Next
-        ensures { λ n. ⌜ (n ≡ nextOf (now (table .entry)) (now (pool .entry)) start (now (now (self .entry) .row)) (now (self .entry) .at))
-            × (now (self .exit) .row ≡ now (self .entry) .row)
-            × (now (self .exit) .at ≡ afterOf (now (self .entry) .at) (nextOf (now (table .entry)) (now (pool .entry)) start (now (now (self .entry) .row))
-            (now (self .entry) .at))) ⌝ }
+        ensures { λ n. ⌜ Strode (now (table .entry)) (now (pool .entry)) start (now (now (self .entry) .row)) (now (self .entry) .at) n (now (self .exit) .at)
+            × (now (self .exit) .row ≡ now (self .entry) .row) ⌝ }
     {
         let at = self.at;
         let s = stride_at(table, pool, start, self.row, at);
@@ -123,7 +121,7 @@ impl<'a> Reader<'a> {
 
 // A reader at any place of a row, asked once. Plain parameters: whoever calls it needs no walk.
 pub fn read_at(table: &[u64], pool: &[u64], start: usize, row: &[u64], at: usize) -> Stride
-    ensures { λ r. ⌜ r ≡ strideOf (now (table .entry)) (now (pool .entry)) start (now (row .entry)) at ⌝ }
+    ensures { λ r. ⌜ Strode (now (table .entry)) (now (pool .entry)) start (now (row .entry)) at (r .answer) (r .at) ⌝ }
 {
     let mut reader = Reader { row, at };
     let answer = reader.next(table, pool, start);

@@ -29,7 +29,7 @@ use Rattle.checked.proofs.Walking.{same-rules, good, walkable}
 use Rattle.checked.proofs.Copying.{over-long}
 use Rattle.checked.proofs.Fitted.{fitted-is}
 use Rattle.checked.proofs.Fitting.{was-asked}
-use Rattle.cases.specs.Write.{wrote, walks, writes, Settled, Wrote, WroteCase, WrotePlanned}
+use Rattle.cases.specs.Write.{wrote, walks, writes, Settled, Wrote, WroteCase, WrotePlanned, written, writeSays}
 use Rattle.cases.specs.declared.writing.Written.{Written}
 use Rattle.cases.specs.declared.writing.Written.the-variants.{Done, Refused}
 
@@ -83,9 +83,9 @@ module _ {t p plan : List ℕ} (h : Planning t p plan) (i n : ℕ) (old : List �
 -- ---- the call
 module _ {t p plan : List ℕ} {v : Verdict} (h : Prepared t p plan v) {i n : ℕ} {old : List ℕ} where
   pub wrote-refused : {r : Refusal} {k : ℕ} → v ≡ Refuses r k → Wrote t p i n old old (Refused r k)
-  unfolding writes
-  wrote-refused e = record { is = rw (← h .is, e); holds = refl }
+  unfolding writes writeSays
+  wrote-refused e = record { says = rw (← h .is, e); holds = refl }
 
   pub wrote-planned : v ≡ Accepted → {last : List ℕ} {w : Written} → WrotePlanned t p i n old last w → Wrote t p i n old last w
-  unfolding writes
-  wrote-planned e g = record { is = rw (← h .is, e) (g .is); holds = g .holds }
+  unfolding writes writeSays
+  wrote-planned e g = record { says = ap written (rw (← h .is, e) (g .is)); holds = g .holds }

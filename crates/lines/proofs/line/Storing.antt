@@ -1,6 +1,6 @@
 -- The numbers of a line, stored one by one.
 --   Storing    what is known at a place: the numbers stored so far, and those of the rest
---   store-start, store-not, store-room, store-within, store-more, store-same, store-end    the loop's steps
+--   store-start, store-not, store-within, store-more, store-same, store-end    the loop's steps
 -- Assumes nothing.
 use mathlib.Core.Path.{_≡_, refl, sym, ap, _∙_}
 use mathlib.Core.Bool.{Bool, true, false}

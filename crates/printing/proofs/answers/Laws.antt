@@ -29,6 +29,7 @@ use Rattle.printing.specs.declared.input.One.the-variants.{Number, Not}
 use Rattle.printing.specs.declared.answers.Opened.the-variants.{Whole, Cases}
 use Rattle.printing.specs.declared.answers.Said.the-variants.{Line, Nothing}
 use Rattle.printing.proofs.answers.Lengths.{refused-size, case-size, case-refused-size, whole}
+use Rattle.cases.proofs.Values.{wrote-is}
 
 -- ---- the start
 module _ (t p : List ℕ) (i : ℕ) {v : Verdict} (e : v ≡ verdict t p) where
@@ -57,7 +58,7 @@ module _ {t p : List ℕ} {i at : ℕ} {v : Verdict} (e : v ≡ started t p i) w
 -- ---- a number
 module _ {t p : List ℕ} {i n : ℕ} {old last : List ℕ} {w : Written} (k : Wrote t p i n old last w) (size : length old ≡ room) where
   told : writes t p i n room ≡ w
-  told = sym (rw size at (k .is))
+  told = sym (rw size at (wrote-is k))
 
   pub line-fits : (count : ℕ) → w ≡ Done count → length (take count last) ≤ room
   line-fits count e = simp length-take (omega (arith, written-fits k count e))

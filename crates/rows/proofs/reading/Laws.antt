@@ -19,7 +19,8 @@ use Rattle.walk.specs.Filled.{over}
 use Rattle.checked.specs.Prepared.{Planning, Prepared}
 use Rattle.checked.specs.Kept.{Kept}
 use Rattle.checked.proofs.Walking.{same-rules}
-use Rattle.rows.specs.ReadRow.{Gathered, all, stopped, gather, answered, gotten, Gathers, readsRowPlanned, readsRow, GotRow, GotRowPlanned}
+use Rattle.rows.specs.Row.{rowAnswer}
+use Rattle.rows.specs.ReadRow.{Gathered, all, stopped, gather, answered, gotten, Gathers, readsRowPlanned, readsRow, GotRow, GotRowPlanned, readRowSays}
 use Rattle.rows.specs.declared.answer.Row.{Row}
 use Rattle.rows.specs.declared.answer.Row.the-variants.{Done, Refused}
 use Rattle.rows.proofs.Cuts.{gathered-fits}
@@ -66,9 +67,9 @@ module _ {t p plan : List ℕ} (h : Planning t p plan) (i : ℕ) (cs old : List 
 -- ---- the call
 module _ {t p plan : List ℕ} {v : Verdict} (h : Prepared t p plan v) {i : ℕ} {cs old : List ℕ} where
   pub got-refused : {r : Refusal} {k : ℕ} → v ≡ Refuses r k → GotRow t p i cs old old (Refused r k 0)
-  unfolding readsRow
-  got-refused e = record { is = rw (← h .is, e); holds = refl }
+  unfolding readsRow readRowSays
+  got-refused e = record { says = rw (← h .is, e); holds = refl }
 
   pub got-planned : v ≡ Accepted → {last : List ℕ} {r : Row} → GotRowPlanned t p i cs old last r → GotRow t p i cs old last r
-  unfolding readsRow
-  got-planned e g = record { is = rw (← h .is, e) (g .is); holds = g .holds }
+  unfolding readsRow readRowSays
+  got-planned e g = record { says = ap rowAnswer (rw (← h .is, e) (g .is)); holds = g .holds }

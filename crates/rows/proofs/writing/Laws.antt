@@ -3,7 +3,7 @@
 --   row-not, row-done      by what was decided
 --   row-refused, row-planned   the call
 -- Assumes nothing.
-use mathlib.Core.Path.{_≡_, refl, sym, _∙_}
+use mathlib.Core.Path.{_≡_, refl, sym, ap, _∙_}
 use mathlib.Core.List.{List}
 use Prim.Native.Nat.{ℕ, _≤_, _<_}
 use lib.ListN.{length}
@@ -16,7 +16,8 @@ use Rattle.grammar.specs.declared.refusal.Verdict.the-variants.{Accepted, Refus
 use Rattle.grammar.specs.Plan.{ruleIn}
 use Rattle.checked.specs.Prepared.{Planning, Prepared}
 use Rattle.checked.proofs.Walking.{same-rules}
-use Rattle.rows.specs.WriteRow.{inTurn, RowOver, writesRowPlanned, writesRow, WroteRow, WroteRowPlanned}
+use Rattle.rows.specs.Row.{rowAnswer}
+use Rattle.rows.specs.WriteRow.{inTurn, RowOver, writesRowPlanned, writesRow, WroteRow, WroteRowPlanned, writeRowSays}
 use Rattle.rows.specs.declared.answer.Row.{Row}
 use Rattle.rows.specs.declared.answer.Row.the-variants.{Done, Refused}
 
@@ -42,9 +43,9 @@ module _ {t p plan : List ℕ} (h : Planning t p plan) (i : ℕ) (ns old : List 
 -- ---- the call
 module _ {t p plan : List ℕ} {v : Verdict} (h : Prepared t p plan v) {i : ℕ} {ns old : List ℕ} where
   pub row-refused : {r : Refusal} {k : ℕ} → v ≡ Refuses r k → WroteRow t p i ns old old (Refused r k 0)
-  unfolding writesRow
-  row-refused e = record { is = rw (← h .is, e); holds = refl }
+  unfolding writesRow writeRowSays
+  row-refused e = record { says = rw (← h .is, e); holds = refl }
 
   pub row-planned : v ≡ Accepted → {last : List ℕ} {r : Row} → WroteRowPlanned t p i ns old last r → WroteRow t p i ns old last r
-  unfolding writesRow
-  row-planned e g = record { is = rw (← h .is, e) (g .is); holds = g .holds }
+  unfolding writesRow writeRowSays
+  row-planned e g = record { says = ap rowAnswer (rw (← h .is, e) (g .is)); holds = g .holds }

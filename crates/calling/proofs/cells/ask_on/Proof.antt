@@ -6,6 +6,7 @@ use lib.ListN.{length}
 use Rattle.calling.proofs.Answers.{Asking, ask-none, nearer, ask-more, ask-end, ask-refused}
 use Rattle.calling.proofs.cells.ask_on.Statement.{statement}
 use Rattle.calling.proofs.cells.ask_on.Tie as tie
+use Rattle.rows.proofs.Values.{strode-is}
 
 abbrev Inv-loop : tie.InvT-loop
 Inv-loop table pool start row page₀ used waiting₀ at₀ t15 page waiting at = Asking table pool start row page₀ used page waiting at
@@ -23,16 +24,16 @@ ask-on-spec =
     (λ c κs. search needs)
     (λ c. search needs)
     (λ c κs. search needs)
-    (λ c. nearer (c .before .before .before .before .before .before .loop .inv) (c .before .before .before .before .before .read-at .ensures)
+    (λ c. nearer (c .before .before .before .before .before .before .loop .inv) (strode-is (c .before .before .before .before .before .read-at .ensures))
     (c .before .before .before .handed .given .1))
-    (λ c. ask-more (c .before .before .before .before .before .before .loop .inv) (c .before .before .before .before .before .read-at .ensures)
+    (λ c. ask-more (c .before .before .before .before .before .before .loop .inv) (strode-is (c .before .before .before .before .before .read-at .ensures))
     (c .before .before .before .handed .given .1) (c .item-line .ensures))
     (λ c. search needs)
     (λ c. search needs)
     (λ c κs. search needs)
-    (λ c. ask-end (c .before .before .before .before .before .before .loop .inv) (c .before .before .before .before .before .read-at .ensures)
+    (λ c. ask-end (c .before .before .before .before .before .before .loop .inv) (strode-is (c .before .before .before .before .before .read-at .ensures))
     (c .before .before .before .enum-told .given .1) (c .put-text .ensures))
     (λ c. search needs)
     (λ c κs. search needs)
-    (λ c. ask-refused (c .before .before .before .before .before .before .loop .inv) (c .before .before .before .before .before .read-at .ensures)
+    (λ c. ask-refused (c .before .before .before .before .before .before .loop .inv) (strode-is (c .before .before .before .before .before .read-at .ensures))
     (c .before .before .before .handed2 .given .1) (c .refused-line .ensures)))

@@ -4,6 +4,7 @@ use borrow.Author.Needs.{needs}
 use Rattle.printing.proofs.answers.Laws.{start-11, start-in, start-not}
 use Rattle.printing.proofs.answers.start.Statement.{statement}
 use Rattle.printing.proofs.answers.start.Tie as tie
+use Rattle.cases.proofs.Values.{check-is}
 
 pub start-spec : {M : Type 1} → statement M
 start-spec =
@@ -11,7 +12,7 @@ start-spec =
     (tie.spec
     (λ c κs. search needs)
     (λ c. search needs)
-    (λ c. start-11 _ _ _ (c .before .before .before .check .ensures) (c .before .enum-told .given .1) (c .if1 .taken))
+    (λ c. start-11 _ _ _ (check-is (c .before .before .before .check .ensures)) (c .before .enum-told .given .1) (c .if1 .taken))
     (λ c. search needs)
-    (λ c. start-in _ _ _ (c .before .before .before .check .ensures) (c .before .enum-told .given .1) (c .if1 .left))
-    (λ c. start-not _ _ _ (c .before .before .before .check .ensures) (c .before .r .given .1)))
+    (λ c. start-in _ _ _ (check-is (c .before .before .before .check .ensures)) (c .before .enum-told .given .1) (c .if1 .left))
+    (λ c. start-not _ _ _ (check-is (c .before .before .before .check .ensures)) (c .before .r .given .1)))

@@ -42,7 +42,7 @@ use denote.Triple.Table.{entered, cited}
 use denote.Triple.Walked.{says, Stays, stay-none, stay-none-slice, walkOf, goes-none, goes-none-slice, Walks, ends-at, walked, walk-meets}
 use denote.Exit.{yes}
 use denote.Triple.Clauses.{Lasts, lasts}
-use Rattle.rows.specs.Reader.{nextOf, afterOf, strideOf}
+use Rattle.rows.specs.Reader.{Strode}
 use Rattle.rows.specs.declared.reader.Reader.{Reader}
 use Rattle.rows.specs.declared.reader.Next.{Next}
 use Rattle.rows.specs.declared.reader.Stride.{Stride}
@@ -72,8 +72,6 @@ stayed = (
 )
 
 -- an answer and a place are a stride
-stride-is : (n n′ : Next) (b b′ : ℕ) → n ≡ n′ → b ≡ b′ → _≡_ {A = Stride} (record { answer = n; at = b }) (record { answer = n′; at = b′ })
-stride-is n n′ b b′ e e′ = cc
 
 -- the contract that the proof cites
 abbrev StepC : {M : Type 1} (𝓤 : URA M) (H : Heap 𝓤) (A : Atoms 𝓤) (mem : Memory → SProp 𝓤) (run : Routine → Fun 𝓤) → Contract 𝓤
@@ -186,10 +184,10 @@ module _ {M : Type 1} (𝓤 : URA M) (H : Heap 𝓤) (A : Atoms 𝓤) (W : Given
 
   -- what `next` says: the answer n, and the reader z that is left
   abbrev Said : Next → Reader → Type 0
-  Said n z = (n ≡ nextOf (now t) (now p) st (now s) a) × (z .row ≡ s) × (z .at ≡ afterOf a (nextOf (now t) (now p) st (now s) a))
+  Said n z = Strode (now t) (now p) st (now s) a n (z .at) × (z .row ≡ s)
 
   exits : (n : Next) (u : Val) (b : ℕ) → Is N.the-row n (u ∷ []) → b < 2 ^ 64
-      → _≡_ {A = Stride} (record { answer = n; at = b }) (strideOf (now t) (now p) st (now s) a)
+      → Strode (now t) (now p) st (now s) a n b
       → ent 𝓤 (⋆ 𝓤 H A (‵ (flft κ q) ∷ ‵ (flft κp qp) ∷ ‵ (flft κt qt) ∷ ‵ All ∷ [])) (Post (vstruct (vcons u (vcons (vint w64 b) vnil))))
   exits n u b is fits e =
       qed W (‵ (flft κ q) ∷ ‵ (flft κp qp) ∷ ‵ (flft κt qt) ∷ ‵ All ∷ []) ∵
@@ -265,7 +263,7 @@ module _ {M : Type 1} (𝓤 : URA M) (H : Heap 𝓤) (A : Atoms 𝓤) (W : Given
         move ! (22 ∷ 23 ∷ []) $ free1 ! $ move ! (20 ∷ 21 ∷ []) $ free1 ! $ move ! (18 ∷ 19 ∷ []) $ free1 ! $ move ! (16 ∷ 17 ∷ []) $ free1 ! $ move !
         (14 ∷ 15 ∷ []) $ free1 ! $ move ! (12 ∷ 13 ∷ []) $ free1 ! $ move ! (0 ∷ 11 ∷ []) $ free1 ! $
         move ! (8 ∷ 9 ∷ []) $ free1 ! $ move ! (6 ∷ 7 ∷ []) $ free1 ! $ move ! (4 ∷ 5 ∷ []) $ free1 ! $ free0 ! $ move ! (0 ∷ 2 ∷ 3 ∷ 1 ∷ []) $
-        by ! (exits n u (z .0 .at) is (was .1 .1 .1 .0 .1) (stride-is n _ (z .0 .at) _ (e .0) (e .2)))))))))))))))))))))
+        by ! (exits n u (z .0 .at) is (was .1 .1 .1 .0 .1) (e .0))))))))))))))))))))
 
 module _ {M : Type 1} (𝓤 : URA M) (H : Heap 𝓤) (A : Atoms 𝓤) (W : Given 𝓤 H A) (mem : Memory → SProp 𝓤) (run : Routine → Fun 𝓤) where
   read-walks : (C : Calls 𝓤 H) (Λ : Loops 𝓤 H) → FmC 𝓤 H (W .laws) C → Triple 𝓤 (C #rows·step) (StepC 𝓤 H A mem run)

@@ -63,6 +63,7 @@ use Rattle.rows.proofs.reader.Reader.next.Key.{name as #rows·step}
 use Rattle.rows.proofs.reader.Reader.next as step
 use Rattle.rows.proofs.reader.Reader.next.Statement as stated
 use Rattle.rows.proofs.reader.Reader.next.Code as code
+use Rattle.rows.proofs.Values.{strode}
 
 -- 'a, and the struct's type at it
 abbrev α : Lft → NamedLft
@@ -201,7 +202,7 @@ module _ {M : Type 1} (𝓤 : URA M) (H : Heap 𝓤) (A : Atoms 𝓤) (W : Given
       (flft κ′ q′) ∷ ‵ Plain ∷ []) ∵
       suffices ! _ (ends-at 𝓤 H A step.ended stayed (step.clauses 𝓤 H A at-mem run) W bound (N′.lowered (r .answer)) (r .answer)
       (moved (r .at), (tt, (tt, (tt, tt)))) (tt, (tt, (tt, (tt, tt))))) $
-      says ! (ap (λ (s : Stride). s .answer) e, refl, ap (λ (s : Stride). s .at) e) $
+      says ! (strode e, refl) $
       nothing ! $ move ! (5 ∷ 0 ∷ []) $ join ! $ move ! (4 ∷ 0 ∷ []) $ join ! $ move ! (4 ∷ 0 ∷ []) $ join ! $ move ! (3 ∷ 0 ∷ []) $ join ! $ frame ! $
       feqI ! (List Val) (vptr b o ∷ []) (vptr b o ∷ []) refl $ fjoin3 ! $ fjoin ! $ owned ! N.the-row (Is N.the-row) (EL.makes N.the-type N′.the-plain 𝓤 H A)
       (r .answer) _ is $ move ! (1 ∷ 0 ∷ []) $ done !
