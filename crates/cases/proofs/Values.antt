@@ -18,7 +18,7 @@ use Rattle.cases.specs.declared.reading.Found.{Found}
 use Rattle.cases.specs.declared.reading.Found.the-variants.{Number, Refused as Not-found}
 
 -- ---- check
-module _ {t p : List ℕ} {v : Verdict} where
+module _ (t p : List ℕ) {v : Verdict} where
   pub check-says : v ≡ verdict t p → answer v ≡ checkSays t p
   unfolding checkSays
   check-says e = ap answer e
@@ -55,7 +55,7 @@ found-back (Not-found r k) = refused-back (Number 0) (λ r. Not-found r k) r
 pub found-one : (f g : Found) → readOf f ≡ readOf g → f ≡ g
 found-one f g e = sym (found-back f) ∙ ap foundOf e ∙ found-back g
 
-module _ {t p : List ℕ} {i : ℕ} {cs : List ℕ} {r : Found} where
+module _ (t p : List ℕ) (i : ℕ) (cs : List ℕ) {r : Found} where
   pub read-says : r ≡ reads t p i cs → readOf r ≡ readSays t p i cs
   unfolding readSays
   read-says e = ap readOf e

@@ -80,13 +80,13 @@ computed-cells = (refl, refl)
 
 -- ---- one that refuses everything
 pub check-refuses-everything : {r : Refusal} {k : ℕ} → answer (Refuses r k) ≡ checkSays L [] → ⊥
-check-refuses-everything h = let e = check-is h ∙ computed .0 in let z : _≡_ {A = ℕ} 0 1 = cc in omega arith
+check-refuses-everything h = let e = check-is _ _ h ∙ computed .0 in let z : _≡_ {A = ℕ} 0 1 = cc in omega arith
 
 pub refuses-everything : {last : List ℕ} {r : Refusal} {k : ℕ} → Wrote L [] 5 0 blank last (Refused r k) → ⊥
 refuses-everything h = let e = wrote-is h ∙ computed .1 in let z : _≡_ {A = ℕ} 0 1 = cc in omega arith
 
 pub read-refuses-everything : {r : Refusal} {k : ℕ} → readOf (Not-found r k) ≡ readSays L [] 5 (1 ∷ 0 ∷ 0 ∷ 0 ∷ []) → ⊥
-read-refuses-everything h = let e = read-is h ∙ computed .5 in let z : _≡_ {A = ℕ} 0 1 = cc in omega arith
+read-refuses-everything h = let e = read-is _ _ _ _ h ∙ computed .5 in let z : _≡_ {A = ℕ} 0 1 = cc in omega arith
 
 pub row-refuses-everything : {last : List ℕ} {r : Refusal} {k item : ℕ} → WroteRow L [] 5 (0 ∷ 0 ∷ []) blank last (Row-refused r k item) → ⊥
 row-refuses-everything h = let e = wrote-row-is h ∙ computed-rows .0 in let z : _≡_ {A = ℕ} 0 1 = cc in omega arith
@@ -95,11 +95,11 @@ pub row-read-refuses-everything : {last : List ℕ} {r : Refusal} {k item : ℕ}
 row-read-refuses-everything h = let e = got-row-is h ∙ computed-rows .2 in let z : _≡_ {A = ℕ} 0 1 = cc in omega arith
 
 pub reader-refuses-everything : {r : Refusal} {k at : ℕ} → Strode L [] 5 (0 ∷ 0 ∷ []) 0 (Not-handed r k) at → ⊥
-reader-refuses-everything h = let e = ap (λ (x : Stride). x .answer) (strode-is h) ∙ computed-rows .5 in let z : _≡_ {A = ℕ} 0 1 = cc in omega arith
+reader-refuses-everything h = let e = ap (λ (x : Stride). x .answer) (strode-is _ _ _ _ _ h) ∙ computed-rows .5 in let z : _≡_ {A = ℕ} 0 1 = cc in omega arith
 
 -- ---- number 0, or the same cells, each time
 pub number-0-each-time : readOf (Number 0) ≡ readSays L [] 5 (1 ∷ 0 ∷ 0 ∷ 0 ∷ []) → ⊥
-number-0-each-time h = let e : Number 0 ≡ Number 1 = read-is h ∙ computed .5 in let z : _≡_ {A = ℕ} 0 1 = cc in omega arith
+number-0-each-time h = let e : Number 0 ≡ Number 1 = read-is _ _ _ _ h ∙ computed .5 in let z : _≡_ {A = ℕ} 0 1 = cc in omega arith
 
 pub zeros-stored : {m c : ℕ} → GotRow L [] 5 (1 ∷ 0 ∷ 0 ∷ 0 ∷ []) blank (0 ∷ 7 ∷ 7 ∷ 7 ∷ []) (Row-done m c) → ⊥
 zeros-stored h = let e = h .holds ∙ computed-rows .4 in let z : _≡_ {A = ℕ} 0 1 = cc in omega arith

@@ -52,7 +52,7 @@ next-back (Not-handed r k) = refused-back End (λ r. Not-handed r k) r
 pub next-one : (x y : Next) → nextAnswer x ≡ nextAnswer y → x ≡ y
 next-one x y e = sym (next-back x) ∙ ap nextWith e ∙ next-back y
 
-module _ {t p : List ℕ} {i : ℕ} {row : List ℕ} {at : ℕ} where
+module _ (t p : List ℕ) (i : ℕ) (row : List ℕ) (at : ℕ) where
   pub strode : {s : Stride} → s ≡ strideOf t p i row at → Strode t p i row at (s .answer) (s .at)
   unfolding nextSays
   strode e = record { says = ap (λ (s : Stride). nextAnswer (s .answer)) e; goes = ap (λ (s : Stride). s .at) e }

@@ -12,7 +12,7 @@ start-spec =
     (tie.spec
     (λ c κs. search needs)
     (λ c. search needs)
-    (λ c. start-11 _ _ _ (check-is (c .before .before .before .check .ensures)) (c .before .enum-told .given .1) (c .if1 .taken))
+    (λ c. start-11 _ _ _ (check-is _ _ (c .before .before .before .check .ensures)) (c .before .enum-told .given .1) (c .if1 .taken))
     (λ c. search needs)
-    (λ c. start-in _ _ _ (check-is (c .before .before .before .check .ensures)) (c .before .enum-told .given .1) (c .if1 .left))
-    (λ c. start-not _ _ _ (check-is (c .before .before .before .check .ensures)) (c .before .r .given .1)))
+    (λ c. start-in _ _ _ (check-is _ _ (c .before .before .before .check .ensures)) (c .before .enum-told .given .1) (c .if1 .left))
+    (λ c. start-not _ _ _ (check-is _ _ (c .before .before .before .check .ensures)) (c .before .r .given .1)))
