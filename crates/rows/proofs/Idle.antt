@@ -79,14 +79,14 @@ unfolding walking over
 computed-cells = (refl, refl)
 
 -- ---- one that refuses everything
-pub check-refuses-everything : {r : Refusal} {k : ℕ} → answer (Refuses r k) ≡ checkSays L [] → ⊥
-check-refuses-everything h = let e = check-is _ _ h ∙ computed .0 in let z : _≡_ {A = ℕ} 0 1 = cc in omega arith
+pub check-refuses-everything : (r : Refusal) (k : ℕ) → answer (Refuses r k) ≡ checkSays L [] → ⊥
+check-refuses-everything r k h = let e = check-is _ _ h ∙ computed .0 in let z : _≡_ {A = ℕ} 0 1 = cc in omega arith
 
 pub refuses-everything : {last : List ℕ} {r : Refusal} {k : ℕ} → Wrote L [] 5 0 blank last (Refused r k) → ⊥
 refuses-everything h = let e = wrote-is h ∙ computed .1 in let z : _≡_ {A = ℕ} 0 1 = cc in omega arith
 
-pub read-refuses-everything : {r : Refusal} {k : ℕ} → readOf (Not-found r k) ≡ readSays L [] 5 (1 ∷ 0 ∷ 0 ∷ 0 ∷ []) → ⊥
-read-refuses-everything h = let e = read-is _ _ _ _ h ∙ computed .5 in let z : _≡_ {A = ℕ} 0 1 = cc in omega arith
+pub read-refuses-everything : (r : Refusal) (k : ℕ) → readOf (Not-found r k) ≡ readSays L [] 5 (1 ∷ 0 ∷ 0 ∷ 0 ∷ []) → ⊥
+read-refuses-everything r k h = let e = read-is _ _ _ _ h ∙ computed .5 in let z : _≡_ {A = ℕ} 0 1 = cc in omega arith
 
 pub row-refuses-everything : {last : List ℕ} {r : Refusal} {k item : ℕ} → WroteRow L [] 5 (0 ∷ 0 ∷ []) blank last (Row-refused r k item) → ⊥
 row-refuses-everything h = let e = wrote-row-is h ∙ computed-rows .0 in let z : _≡_ {A = ℕ} 0 1 = cc in omega arith

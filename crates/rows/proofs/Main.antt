@@ -43,13 +43,13 @@ use Rattle.rows.proofs.Sides as Sides
 
 -- ---- Demand 1. Every table, number and row of cells gets an answer, and a refusal changes no lent cell: one outcome for every input, and a refusal's
 -- buffer is as it was.
+one-verdict : (t p : List ℕ) {v w : Verdict} → answer v ≡ checkSays t p → answer w ≡ checkSays t p → v ≡ w
+one-verdict t p e f = Unique.one-verdict t p e f
+
+one-reading : (t p : List ℕ) (i : ℕ) (cs : List ℕ) {r r' : Found} → readOf r ≡ readSays t p i cs → readOf r' ≡ readSays t p i cs → r ≡ r'
+one-reading t p i cs e f = Unique.one-reading t p i cs e f
+
 module _ {t p : List ℕ} {i : ℕ} where
-  one-verdict : {v w : Verdict} → answer v ≡ checkSays t p → answer w ≡ checkSays t p → v ≡ w
-  one-verdict e f = Unique.one-verdict t p e f
-
-  one-reading : {cs : List ℕ} {r r' : Found} → readOf r ≡ readSays t p i cs → readOf r' ≡ readSays t p i cs → r ≡ r'
-  one-reading {cs} e f = Unique.one-reading t p i cs e f
-
   one-stride : {row : List ℕ} {at : ℕ} {n n' : Next} {to to' : ℕ} → Strode t p i row at n to → Strode t p i row at n' to' → (n ≡ n') × (to ≡ to')
   one-stride {row} {at} h k = Unique.one-stride t p i row at h k
 
