@@ -4,8 +4,6 @@ pub mod Meaning
 pub mod Outcomes
 pub mod Doors
 pub mod BothSides
-pub mod Worked
-pub mod WorkedCases
 pub mod Counts
 pub mod Ranks
 pub mod Ends

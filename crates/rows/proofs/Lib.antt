@@ -5,10 +5,4 @@ pub mod Gathering
 pub mod Cuts
 pub mod Answers
 pub mod Outcomes
-pub mod WorkedRows
-pub mod Unique
-pub mod Idle
-pub mod Sides
-pub mod Main
-pub mod OneList
 mod Lent

@@ -10,9 +10,9 @@ use Rattle.walk.specs.Walk.{walk, depth}
 use Rattle.walk.specs.Walk
 use Rattle.walk.proofs.Opened.{walking}
 use Rattle.checked.specs.Fits.{fitted}
 use Rattle.cases.specs.Write.{walks, writes, WriteAnswer, written, writeSays}
 use Rattle.cases.specs.Read.{found, finds, reads, ReadAnswer, readOf, readSays}
-use Rattle.cases.proofs.Worked.{L}
+use Rattle.promises.proofs.Worked.{L}
 
 -- a table, its pool, a start node, a number and its cells; or the cells, the refusal's number and the number found
 pub data Worked : Type 0 where

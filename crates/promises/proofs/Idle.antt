@@ -25,16 +25,16 @@ use Rattle.cases.specs.Write.{walks, writes, Wrote}
 use Rattle.cases.specs.Read.{found, finds, reads, readOf, readSays}
 use Rattle.cases.specs.declared.writing.Written.the-variants.{Done, Refused}
 use Rattle.cases.specs.declared.reading.Found.the-variants.{Number, Refused as Not-found}
-use Rattle.cases.proofs.Worked.{L}
+use Rattle.promises.proofs.Worked.{L}
 use Rattle.rows.specs.WriteRow.{writesRowPlanned, writesRow, WroteRow}
 use Rattle.rows.specs.WriteRow as Written
 use Rattle.rows.specs.ReadRow.{gather, gotten, readsRowPlanned, readsRow, GotRow}
 use Rattle.rows.specs.Reader.{next, nextPlanned, nextOf, Strode}
 use Rattle.rows.specs.declared.answer.Row.the-variants.{Done as Row-done, Refused as Row-refused}
 use Rattle.rows.specs.declared.reader.Next.the-variants.{Item, Refused as Not-handed}
 use Rattle.rows.specs.declared.reader.Stride.{Stride}
 use Rattle.cases.proofs.Values.{check-is, wrote-is, read-is}
 use Rattle.rows.proofs.Values.{wrote-row-is, got-row-is, strode-is}
 
 -- words that no case here has
 abbrev blank : List ℕ

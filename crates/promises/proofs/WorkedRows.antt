@@ -9,12 +9,12 @@ use Rattle.grammar.specs.Sizes.{rulesOf}
 use Rattle.walk.proofs.Opened.{walking}
 use Rattle.checked.specs.Fits.{fitted}
 use Rattle.checked.specs.Item.{frontOf}
-use Rattle.cases.proofs.Worked.{L}
+use Rattle.promises.proofs.Worked.{L}
 use Rattle.rows.specs.Row.{RowAnswer, rowAnswer}
 use Rattle.rows.specs.WriteRow.{writesRowPlanned, writesRow, writeRowSays}
 use Rattle.rows.specs.WriteRow as Written
 use Rattle.rows.specs.ReadRow.{gather, gotten, readsRowPlanned, readsRow, readRowSays}
 use Rattle.rows.specs.Reader.{next, nextPlanned, nextOf, NextAnswer, nextAnswer, nextSays}
 
 -- a table, a start node, a room, and numbers with what their row is; a room and cells with what they read as; a row and a place with what the reader says
 pub data Worked : Type 0 where

@@ -26,20 +26,20 @@ use Rattle.cases.specs.declared.writing.Written.the-variants.{Done, Refused}
 use Rattle.cases.specs.declared.reading.Found.the-variants.{Number, Refused as Not-found}
 use Rattle.cases.proofs.BothSides as Both-sides
 use Rattle.cases.proofs.Ends as Ends
-use Rattle.cases.proofs.Worked as Tables
-use Rattle.cases.proofs.WorkedCases as Cases
+use Rattle.promises.proofs.Worked as Tables
+use Rattle.promises.proofs.WorkedCases as Cases
 use Rattle.rows.specs.WriteRow.{WroteRow}
 use Rattle.rows.specs.ReadRow.{GotRow}
 use Rattle.rows.specs.Reader.{strideOf, Strode}
 use Rattle.rows.specs.Cut.{Cut, joined, handOut, asks}
 use Rattle.rows.specs.declared.answer.Row.{Row}
 use Rattle.rows.specs.declared.answer.Row.the-variants.{Done as Row-done, Refused as Row-refused}
 use Rattle.rows.specs.declared.reader.Next.{Next}
 use Rattle.rows.specs.declared.reader.Next.the-variants.{End}
-use Rattle.rows.proofs.OneList as One-list
-use Rattle.rows.proofs.Unique as Unique
-use Rattle.rows.proofs.WorkedRows as Rows
-use Rattle.rows.proofs.Sides as Sides
+use Rattle.promises.proofs.OneList as One-list
+use Rattle.promises.proofs.Unique as Unique
+use Rattle.promises.proofs.WorkedRows as Rows
+use Rattle.promises.proofs.Sides as Sides
 
 -- ---- Demand 1. Every table, number and row of cells gets an answer, and a refusal changes no lent cell: one outcome for every input, and a refusal's
 -- buffer is as it was.

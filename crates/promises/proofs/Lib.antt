@@ -1,0 +1,9 @@
+-- What is promised, with what it rests on above the calls.
+pub mod Main
+pub mod OneList
+pub mod Sides
+pub mod Unique
+pub mod Idle
+pub mod Worked
+pub mod WorkedCases
+pub mod WorkedRows

@@ -1,0 +1,1 @@
+// What the calls promise, in one place: proofs alone, no code.
