@@ -4,17 +4,17 @@
 --   leads-is                       the computed test agrees with paths of any length
 --   verdict-9, -10, -accepted      the verdict by the cycles
 --   accepted-means                 an accepted table has neither
---   accepted-size, accepted-fit    a node's size is its rule's, and 1 to 2^62 where it is finite
+--   accepted-size, accepted-small  a node's size is its rule's, and 1 to 2^62 where it is finite
 -- Assumes nothing.
-use mathlib.Core.Path.{_≡_, refl, sym, _∙_}
+use mathlib.Core.Path.{_≡_, refl, sym, subst, _∙_}
 use mathlib.Core.Bool.{Bool, true, false, _&&_}
 use mathlib.Core.Logic.{_⊎_, ⊎-elim}
 use mathlib.Core.List.{List}
-use Prim.Native.Nat.{ℕ, _*_, _≤_, _<_}
+use Prim.Native.Nat.{ℕ, _*_, _^_, _≤_, _<_}
 use lib.Dec.{eqb, leb}
 use lib.ListN.{length}
 use borrow.Author.Tests.{lt-ltb, eqb-true, leb-true}
-use Rattle.numbers.specs.Size.{Size}
+use Rattle.numbers.specs.Size.{Size, finite}
 use Rattle.graph.specs.Paths.{Decides}
 use Rattle.graph.specs.Lowest.{Lowest}
 use Rattle.graph.proofs.Marks.{le-or-lt}
@@ -99,5 +99,5 @@ module _ (t p : List ℕ) (a : verdict t p ≡ Accepted) where
   pub accepted-size : (n : ℕ) → n < nodes t → sizeAt (sizes t p) n ≡ rulesOf t p n .size
   accepted-size n l = accepted-checked .good .sized n l
 
-  pub accepted-fit : (n : ℕ) → n < nodes t → Fit (sizeAt (sizes t p) n)
-  accepted-fit n l = accepted-checked .fit n l
+  pub accepted-small : (n : ℕ) → n < nodes t → (s : ℕ) → sizeAt (sizes t p) n ≡ finite s → (0 < s) × (s ≤ 2 ^ 62)
+  accepted-small n l s e = subst Fit e (accepted-checked .fit n l)

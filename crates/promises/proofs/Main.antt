@@ -4,10 +4,11 @@
 -- Assumes nothing.
 use mathlib.Core.Path.{_≡_}
 use mathlib.Core.List.{List, [], _∷_, _++_, map}
-use Prim.Native.Nat.{ℕ, suc, _+_, _≤_, _<_}
+use Prim.Native.Nat.{ℕ, suc, _+_, _^_, _≤_, _<_}
 use lib.ListN.{length, take}
-use Rattle.numbers.specs.Size.{Below}
+use Rattle.numbers.specs.Size.{Below, finite}
 use Rattle.grammar.specs.Table.{nodes}
+use Rattle.grammar.specs.Refusals.{numberOf}
 use Rattle.grammar.specs.Sizes.{sizeAt, sizes}
 use Rattle.grammar.specs.Verdict.{verdict, answer, checkSays}
 use Rattle.grammar.specs.declared.refusal.Verdict.{Verdict}
@@ -26,6 +27,7 @@ use Rattle.cases.specs.declared.writing.Written.the-variants.{Done, Refused}
 use Rattle.cases.specs.declared.reading.Found.the-variants.{Number, Refused as Not-found}
 use Rattle.cases.proofs.BothSides as Both-sides
 use Rattle.cases.proofs.Ends as Ends
+use Rattle.cases.proofs.Meaning as Meaning
 use Rattle.promises.proofs.Worked as Tables
 use Rattle.promises.proofs.WorkedCases as Cases
 use Rattle.rows.specs.WriteRow.{WroteRow}
@@ -35,7 +37,7 @@ use Rattle.rows.specs.Cut.{Cut, joined, handOut, asks}
 use Rattle.rows.specs.declared.answer.Row.{Row}
 use Rattle.rows.specs.declared.answer.Row.the-variants.{Done as Row-done, Refused as Row-refused}
 use Rattle.rows.specs.declared.reader.Next.{Next}
-use Rattle.rows.specs.declared.reader.Next.the-variants.{End}
+use Rattle.rows.specs.declared.reader.Next.the-variants.{Item, End, Refused as Not-handed}
 use Rattle.promises.proofs.OneList as One-list
 use Rattle.promises.proofs.Unique as Unique
 use Rattle.promises.proofs.WorkedRows as Rows
@@ -46,12 +48,22 @@ use Rattle.promises.proofs.Sides as Sides
 one-verdict : (t p : List ℕ) {v w : Verdict} → answer v ≡ checkSays t p → answer w ≡ checkSays t p → v ≡ w
 one-verdict t p e f = Unique.one-verdict t p e f
 
+one-reader : {A : Type 0} {row : A} {at at' : ℕ} {x x' : A} → (x ≡ row) × (at ≡ 0) → (x' ≡ row) × (at' ≡ 0) → (x ≡ x') × (at ≡ at')
+one-reader h k = Unique.one-reader h k
+
+one-number : (r : Refusal) {n n' : ℕ} → n ≡ numberOf r → n' ≡ numberOf r → n ≡ n'
+one-number r e f = Unique.one-number r e f
+
 one-reading : (t p : List ℕ) (i : ℕ) (cs : List ℕ) {r r' : Found} → readOf r ≡ readSays t p i cs → readOf r' ≡ readSays t p i cs → r ≡ r'
 one-reading t p i cs e f = Unique.one-reading t p i cs e f
 
 module _ {t p : List ℕ} {i : ℕ} where
   one-stride : {row : List ℕ} {at : ℕ} {n n' : Next} {to to' : ℕ} → Strode t p i row at n to → Strode t p i row at n' to' → (n ≡ n') × (to ≡ to')
   one-stride {row} {at} h k = Unique.one-stride t p i row at h k
+
+  one-next : {A : Type 0} {row : A} {cells : List ℕ} {at : ℕ} {n n' : Next} {to to' : ℕ} {x x' : A} → Strode t p i cells at n to × (x ≡ row)
+      → Strode t p i cells at n' to' × (x' ≡ row) → (n ≡ n') × (to ≡ to') × (x ≡ x')
+  one-next {cells = cells} {at = at} h k = Unique.one-next t p i cells at h k
 
   one-writing : {n : ℕ} {old last last' : List ℕ} {r r' : Written} → Wrote t p i n old last r → Wrote t p i n old last' r' → (r ≡ r') × (last ≡ last')
   one-writing h k = Unique.one-writing t p i h k
@@ -91,6 +103,9 @@ module _ (t p : List ℕ) (a : verdict t p ≡ Accepted) (i : ℕ) (l : i < node
   one-case : (n : ℕ) (cs ds : List ℕ) → reads t p i cs ≡ Number n → reads t p i ds ≡ Number n → cs ≡ ds
   one-case = Both-sides.one-case t p a i l
 
+  size-small : (s : ℕ) → sizeAt (sizes t p) i ≡ finite s → (0 < s) × (s ≤ 2 ^ 62)
+  size-small = Meaning.accepted-small t p a i l
+
   every-number : (n : ℕ) → Below n (sizeAt (sizes t p) i) → (d : ℕ) × (cs : List ℕ) × (walk (rulesOf t p) d 0 i n ≡ map cell cs)
   every-number = Ends.every-number t p a i l
 
@@ -102,9 +117,15 @@ module _ (t p : List ℕ) (a : verdict t p ≡ Accepted) (i : ℕ) (l : i < node
       ≡ Not-found NotACase 0
   longer-refused = Both-sides.longer-refused t p a i l
 
+  -- for cells at any depth, and of any two numbers, whether or not `read` gives them (a case whose number is 2^62 or more is one too)
+  no-case-begins : (d m n : ℕ) (cs more : List ℕ) → Below m (sizeAt (sizes t p) i) → Below n (sizeAt (sizes t p) i) → walk (rulesOf t p) d 0 i m ≡ map cell cs
+      → walk (rulesOf t p) d 0 i n ≡ map cell (cs ++ more) → (more ≡ []) × (m ≡ n)
+  no-case-begins = Both-sides.no-case-begins t p a i l
+
   row-there-and-back : {ns : List ℕ} {css : List (List ℕ)} → Cut (rulesOf t p) i ns css → {old last old' last' : List ℕ} {w r : Row}
       → length (joined css) ≤ length old → length ns ≤ length old' → WroteRow t p i ns old last w → GotRow t p i (take (length (joined css)) last) old' last' r
-      → (r ≡ Row-done (length ns) (length (joined css))) × (take (length ns) last' ≡ ns)
+      → (w ≡ Row-done (length ns) (length (joined css))) × (take (length (joined css)) last ≡ joined css)
+      × (r ≡ Row-done (length ns) (length (joined css))) × (take (length ns) last' ≡ ns)
   row-there-and-back cut f f' h k = One-list.row-there-and-back t p a i l cut f f' h k
 
   one-list : {ns ms old last old' last' : List ℕ} {m c m' c' : ℕ} → WroteRow t p i ns old last (Row-done m c) → WroteRow t p i ms old' last' (Row-done m' c')
@@ -114,6 +135,19 @@ module _ (t p : List ℕ) (a : verdict t p ≡ Accepted) (i : ℕ) (l : i < node
   one-cut : {ns ms : List ℕ} {css dss : List (List ℕ)} → Cut (rulesOf t p) i ns css → Cut (rulesOf t p) i ms dss → joined css ≡ joined dss
       → (ns ≡ ms) × (css ≡ dss)
   one-cut cut cut' e = One-list.one-cut t p a i l cut cut' e
+
+  only-cuts : {cs old last : List ℕ} {m c : ℕ} → GotRow t p i cs old last (Row-done m c)
+      → (css : List (List ℕ)) × Cut (rulesOf t p) i (take m last) css × (joined css ≡ cs)
+  only-cuts h = One-list.only-cuts t p a i l h
+
+  case-handed : {n : ℕ} {cs : List ℕ} → Asked (rulesOf t p i .size) n → Case (rulesOf t p) i n cs → (before rest : List ℕ)
+      → strideOf t p i (before ++ (cs ++ rest)) (length before) ≡ record { answer = Item n (length cs); at = length before + length cs }
+  case-handed q c before rest = One-list.case-handed t p a i l q c before rest
+
+  reader-refused : {row old last : List ℕ} {r : Refusal} {item : ℕ} → GotRow t p i row old last (Row-refused r 0 item) → length row ≤ length old
+      → (ns : List ℕ) × (css : List (List ℕ)) × (rest : List ℕ) × Cut (rulesOf t p) i ns css × (row ≡ joined css ++ rest)
+      × (asks (strideOf t p i row) (suc item) 0 ≡ handOut 0 ns css (Not-handed r 0))
+  reader-refused h f = One-list.reader-refused t p a i l h f
 
   reader-done : {row old last : List ℕ} {m c : ℕ} → GotRow t p i row old last (Row-done m c)
       → (css : List (List ℕ)) × (joined css ≡ row) × (asks (strideOf t p i row) (suc m) 0 ≡ handOut 0 (take m last) css End)

@@ -51,8 +51,13 @@ module _ (t p : List ℕ) (a : verdict t p ≡ Accepted) (i : ℕ) (l : i < node
 
   pub row-there-and-back : {ns : List ℕ} {css : List (List ℕ)} → Cut g i ns css → {old last old' last' : List ℕ} {w r : Row}
       → length (joined css) ≤ length old → length ns ≤ length old' → WroteRow t p i ns old last w
-      → GotRow t p i (take (length (joined css)) last) old' last' r → (r ≡ Done (length ns) (length (joined css))) × (take (length ns) last' ≡ ns)
-  row-there-and-back cut f f' h k = got-cut t p a i l cut f' (rw (row-written cut f h .1) at k)
+      → GotRow t p i (take (length (joined css)) last) old' last' r
+      → (w ≡ Done (length ns) (length (joined css))) × (take (length (joined css)) last ≡ joined css)
+      × (r ≡ Done (length ns) (length (joined css))) × (take (length ns) last' ≡ ns)
+  row-there-and-back cut f f' h k =
+      let (wrote, cells) = row-written cut f h in
+      let (got, numbers) = got-cut t p a i l cut f' (rw cells at k) in
+      (wrote, cells, got, numbers)
 
   pub read-then-written : {cs old last old' last' : List ℕ} {m c : ℕ} {w : Row} → GotRow t p i cs old last (Done m c)
       → WroteRow t p i (take m last) old' last' w → length cs ≤ length old' → (w ≡ Done m c) × (take c last' ≡ cs)

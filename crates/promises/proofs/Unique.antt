@@ -1,11 +1,15 @@
 -- "Any two outcomes allowed by one promise are proved equal": the answer and the last words of every lent slice, for every public call.
 --   one-verdict, one-writing, one-reading         `check`, `write`, `read`
---   one-row-writing, one-row-reading, one-stride  `write_row`, `read_row`, the reader
+--   one-row-writing, one-row-reading              `write_row`, `read_row`
+--   one-stride, one-next, one-reader              `read_at`, `Reader::next`, `Reader::new`
+--   one-number                                    `number_of`
 -- Assumes nothing.
 use mathlib.Core.Path.{_≡_, sym, ap, _∙_}
 use mathlib.Core.List.{List}
 use Prim.Native.Nat.{ℕ}
 use Rattle.grammar.specs.Verdict.{answer, checkSays}
+use Rattle.grammar.specs.Refusals.{numberOf}
+use Rattle.grammar.specs.declared.refusal.Refusal.{Refusal}
 use Rattle.grammar.specs.declared.refusal.Verdict.{Verdict}
 use Rattle.grammar.specs.Sizes.{rulesOf}
 use Rattle.walk.specs.Walk.{walk, cells, depth}
@@ -50,3 +54,15 @@ module _ (t p : List ℕ) (i : ℕ) where
 
   pub one-stride : (row : List ℕ) (at : ℕ) {n n' : Next} {to to' : ℕ} → Strode t p i row at n to → Strode t p i row at n' to' → (n ≡ n') × (to ≡ to')
   one-stride row at {n} {n'} h k = (next-one n n' (h .says ∙ sym (k .says)), h .goes ∙ sym (k .goes))
+
+  -- of a reader: its answer, its row and its place
+  pub one-next : {A : Type 0} {row : A} (cells : List ℕ) (at : ℕ) {n n' : Next} {to to' : ℕ} {x x' : A} → Strode t p i cells at n to × (x ≡ row)
+      → Strode t p i cells at n' to' × (x' ≡ row) → (n ≡ n') × (to ≡ to') × (x ≡ x')
+  one-next cells at h k = let (e, f) = one-stride cells at (h .0) (k .0) in (e, f, h .1 ∙ sym (k .1))
+
+-- a reader that is made: its row and its place
+pub one-reader : {A : Type 0} {row : A} {at at' : ℕ} {x x' : A} → (x ≡ row) × (at ≡ 0) → (x' ≡ row) × (at' ≡ 0) → (x ≡ x') × (at ≡ at')
+one-reader h k = (h .0 ∙ sym (k .0), h .1 ∙ sym (k .1))
+
+pub one-number : (r : Refusal) {n n' : ℕ} → n ≡ numberOf r → n' ≡ numberOf r → n ≡ n'
+one-number r e f = e ∙ sym f
