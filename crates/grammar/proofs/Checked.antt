@@ -1,6 +1,8 @@
 -- A table whose nodes pass is checked.
 --   row-holds    a row that gives a size has all its checks passed
 --   row-fit      and the size fits
+--   row-same     a row looks at the sizes before its node alone
+--   onward-of    a node more
 --   scan-long, scan-passed   of the nodes below n, among the sizes of the scan
 --   sizes-fit, good-of, checked-of   of a whole table
 --   step-lower   in a checked table all steps lead to lower nodes but again's
@@ -22,12 +24,13 @@ use Rattle.graph.proofs.Marks.{same?}
 use Rattle.grammar.specs.Table.{kindOf, aOf, bOf, nodes}
 use Rattle.grammar.specs.Checks.{Check, asks, Row, fault, sized, row}
 use Rattle.grammar.specs.Law.{Fit, Holds, Under, Good}
-use Rattle.grammar.specs.Kind.{Kind, before}
+use Rattle.grammar.specs.Kind.{Kind, before, spare}
 use Rattle.grammar.specs.kinds.{kinds, unknown, kindIn}
 use Rattle.grammar.specs.Nodes.{nodeAt, ruleAt, rowAt}
 use Rattle.grammar.specs.Checked.{Checked}
 use Rattle.grammar.specs.Sizes.{Scan, passed, faulty, sizeAt, noted, onward, scan}
 use Rattle.grammar.specs.declared.refusal.Refusal.{Refusal}
+use Rattle.grammar.specs.declared.refusal.Refusal.the-variants.{SpareWord}
 use Rattle.grammar.specs.kinds.Fix.{passRule}
 use Rattle.grammar.proofs.KindLaw.{KindLaw, Lower, each-kind, each-but}
 use Rattle.grammar.proofs.laws.{laws, unknown-law, lowers, unknown-lower}
@@ -51,6 +54,13 @@ before-same z z' n f = fun-ext (λ i. by i (ltb i n) refl)
     by i true e = f i (ltb-true i n e)
     by i false e = refl
 
+-- a row looks at the sizes before its node alone
+pub row-same : (t p : List ℕ) (z z' : ℕ → Size) (n : ℕ) → ((i : ℕ) → i < n → z i ≡ z' i) → rowAt t p z n ≡ rowAt t p z' n
+unfolding rowAt ruleAt
+row-same t p z z' n f =
+    let k = kindIn (kindOf t n) in
+    ap (λ (y : ℕ → Size). row (asks (spare k (aOf t n) (bOf t n)) SpareWord ∷ k .checks (nodeAt t p n) y) (k .rule (aOf t n) (bOf t n) p y .size)) (before-same z z' n f)
+
 -- ---- the scan
 sized-of : (n : ℕ) (zs : List Size) {ys : List Size} (r : Row) → noted n zs r ≡ passed ys → (s : Size) × (r ≡ sized s) × (ys ≡ zs ++ (s ∷ []))
 sized-of n zs (fault f) e = let x : _≡_ {A = ℕ} 0 1 = cc in absurd (omega arith)
@@ -73,7 +83,7 @@ module _ (t p : List ℕ) where
     unfolding ruleAt
     row-fit f = rw (row-at .1, law k .sees (nodeAt t p k) z (row-at .0)) (law k .fit (nodeAt t p k) z f (row-at .0))
 
-  onward-of : (n : ℕ) (q : Scan) {ys : List Size} → onward t p n q ≡ passed ys
+  pub onward-of : (n : ℕ) (q : Scan) {ys : List Size} → onward t p n q ≡ passed ys
       → (zs : List Size) × (q ≡ passed zs) × ((s : Size) × (rowAt t p (sizeAt zs) n ≡ sized s) × (ys ≡ zs ++ (s ∷ [])))
   unfolding onward
   onward-of n (passed zs) e = (zs, refl, sized-of n zs (rowAt t p (sizeAt zs) n) e)

@@ -1,22 +1,25 @@
 -- What is proved of each kind, from its checks alone.
 --   fit-some, fit-plus   what follows where a size fits, and that a sum does where it is tested
 --   lower-both both parts are lower
---   KindLaw    the sizes before the node are all that its rule looks at; its rule is lawful, and its size fits
+--   inRow      refusals 2 to 8
+--   KindLaw    its checks give refusals of a row; the sizes before the node are all that its rule looks at; its rule is lawful, and its size fits
 --   Lower      its steps lead to lower nodes
 --   Plain      it is no except
 --   All, each-kind     of every kind of a list, and so of any kind word
 --   AllBut, each-but   the same of all of a list but the one at a place
 -- Assumes nothing.
 use mathlib.Core.Path.{_≡_, refl, ap}
-use mathlib.Core.Bool.{true, false, _&&_}
+use mathlib.Core.Bool.{Bool, true, false, _&&_}
 use mathlib.Core.List.{List, [], _∷_}
 use Prim.Native.Nat.{ℕ, zero, suc, _+_, _^_, _<_}
 use native.Mathlib.Omega.{arith}
+use lib.Dec.{leb}
 use lib.ListN.{getD}
 use borrow.Author.Tests.{leb-true}
 use Rattle.numbers.proofs.Tests.{and-left, and-right}
 use Rattle.numbers.specs.Size.{Size, finite, endless, Some, plus}
-use Rattle.grammar.specs.Checks.{fits}
+use Rattle.grammar.specs.Checks.{Check, asks, fits}
+use Rattle.grammar.specs.Refusals.{numberOf}
 use Rattle.grammar.specs.Law.{Fit, Lawful, Under, Holds}
 use Rattle.grammar.specs.Rule.{Rule}
 use Rattle.grammar.specs.Kind.{Node, Kind, lower, before}
@@ -45,7 +48,13 @@ pub record Ground (v : Node) (z : ℕ → Size) : Type 0 where
 abbrev ruled : Kind → Node → (ℕ → Size) → Rule
 ruled k v z = k .rule (v .a) (v .b) (v .pool) z
 
+-- whether all its refusals are those of a row, 2 to 8
+abbrev pub inRow : List Check → Bool
+inRow [] = true
+inRow (asks q r ∷ cs) = (leb 2 (numberOf r) && leb (numberOf r) 8) && inRow cs
+
 pub record KindLaw (k : Kind) : Type 0 where
+  pub gives : (v : Node) (z : ℕ → Size) → inRow (k .checks v z) ≡ true
   pub sees : (v : Node) (z : ℕ → Size) → Holds (k .checks v (before z (v .own))) → ruled k v (before z (v .own)) ≡ ruled k v z
   pub lawful : (v : Node) (z : ℕ → Size) → Ground v z → Holds (k .checks v (before z (v .own))) → Lawful z (v .nodes) (ruled k v z)
   pub fit : (v : Node) (z : ℕ → Size) → ((i : ℕ) → i < v .own → Fit (z i)) → Holds (k .checks v (before z (v .own))) → Fit (ruled k v z .size)

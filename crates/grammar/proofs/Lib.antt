@@ -10,6 +10,7 @@ pub mod KindLaw
 pub mod laws
 pub mod Sizes
 pub mod Checked
+pub mod Faults
 pub mod Turns
 pub mod Joins
 pub mod Places

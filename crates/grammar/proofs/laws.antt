@@ -17,6 +17,7 @@ pub mod Again
 use mathlib.Core.Path.{refl}
 use mathlib.Core.Bool.{false≢true}
 use Rattle.graph.specs.Ways.{has}
+use Rattle.grammar.specs.Refusals.{numberOf}
 use Rattle.grammar.specs.Checks.{different, every, total}
 use Rattle.grammar.specs.kinds.{kinds, unknown}
 use Rattle.grammar.specs.kinds.Below.{belowRule}
@@ -53,7 +54,8 @@ laws = (below-law, (nats-law, (pool-law, (shift-law, (or-law, (cons-law, (dep-la
 
 -- no check of an unknown kind is passed
 pub unknown-law : KindLaw unknown
-unknown-law = record { sees = λ v z h. refl; lawful = λ v z r h. absurd (false≢true (h .0)); fit = λ v z f h. absurd (false≢true (h .0)) }
+unfolding numberOf
+unknown-law = record { gives = λ v z. refl; sees = λ v z h. refl; lawful = λ v z r h. absurd (false≢true (h .0)); fit = λ v z f h. absurd (false≢true (h .0)) }
 
 pub lowers : AllBut 9 Lower kinds
 lowers = (below-lower, (nats-lower, (pool-lower, (shift-lower, (or-lower, (cons-lower, (dep-lower, (except-lower, (fix-lower, tt)))))))))

@@ -3,10 +3,8 @@
 --   weighing-none, weighing-more, weighing-fault, weighing-end   its turns
 -- Assumes nothing.
 use mathlib.Core.Path.{_≡_, refl, sym, ap, _∙_}
-use mathlib.Core.Logic.{⊎-elim}
 use mathlib.Core.List.{List, [], _∷_, _++_}
-use Prim.Native.Nat.{ℕ, zero, suc, _+_, _*_, _≤_, _<_, zero-le}
-use native.Mathlib.Nat.{le-of-suc-le-suc, eq-or-lt-of-le}
+use Prim.Native.Nat.{ℕ, suc, _+_, _*_, _≤_, _<_, zero-le}
 use native.Mathlib.Numerals.{add-one}
 use native.Mathlib.Omega.{arith}
 use lib.ListN.{length, replicate, length-set}
@@ -22,6 +20,7 @@ use Rattle.grammar.specs.declared.kinds.Weighed.{Weighed}
 use Rattle.grammar.specs.declared.kinds.Weighed.the-variants.{Fault, Of}
 use Rattle.planning.proofs.Plans.{plan-none, plan-more, plan-sizes}
 use Rattle.grammar.proofs.Checked.{row-fit}
+use Rattle.grammar.proofs.Faults.{stays}
 
 -- ---- a row's outcome, from the code's word for it
 coded-of : (r : Row) {w : ℕ} → coded r ≡ Of w → (s : Size) × (r ≡ sized s) × (w ≡ codeOf s)
@@ -45,12 +44,6 @@ pub record Weighing (t p old : List ℕ) (n : ℕ) (plan : List ℕ) : Type 0 wh
 pub weighing-none : {t p plan : List ℕ} → plan ≡ replicate (length plan) 0 → 4 * nodes t ≤ length plan → Weighing t p plan 0 plan
 unfolding scan
 weighing-none {t} {p} {plan} e l = record { le = zero-le; same = refl; zs = []; is = refl; plans = plan-none t plan e l }
-
--- a refusal stays
-stays : (t p : List ℕ) (m k : ℕ) {r : Refusal} {i : ℕ} → k ≤ m → scan t p k ≡ faulty r i → scan t p m ≡ faulty r i
-unfolding scan onward
-stays t p zero k l e = let z : k ≡ 0 = omega arith in rw z at e
-stays t p (suc m) k l e = ⊎-elim (λ same. rw same at e) (λ less. rw (stays t p m k (le-of-suc-le-suc less) e)) (eq-or-lt-of-le l)
 
 module _ {t p old plan : List ℕ} {n : ℕ} (c : Weighing t p old n plan) (l : n < nodes t) {w : Weighed} (e : w ≡ coded (rowAt t p (sizeIn plan) n)) where
   here : w ≡ coded (rowAt t p (sizeAt (c .zs)) n)

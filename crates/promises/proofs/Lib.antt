@@ -1,5 +1,6 @@
 -- What is promised, with what it rests on above the calls.
 pub mod Main
+pub mod Refused
 pub mod OneList
 pub mod Sides
 pub mod Unique

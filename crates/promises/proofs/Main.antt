@@ -2,7 +2,7 @@
 -- `check` says `checkSays`, `read` says `readSays`; `write` promises `Wrote`, `write_row` and `read_row` promise `WroteRow` and `GotRow`, the reader promises
 -- `Strode`: each in 01's numbers. None of them has a `requires`. Every statement is in full, every proof one citation.
 -- Assumes nothing.
-use mathlib.Core.Path.{_≡_}
+use mathlib.Core.Path.{_≡_, subst}
 use mathlib.Core.List.{List, [], _∷_, _++_, map}
 use Prim.Native.Nat.{ℕ, suc, _+_, _^_, _≤_, _<_}
 use lib.ListN.{length, take}
@@ -39,12 +39,17 @@ use Rattle.rows.specs.declared.answer.Row.the-variants.{Done as Row-done, Refus
 use Rattle.rows.specs.declared.reader.Next.{Next}
 use Rattle.rows.specs.declared.reader.Next.the-variants.{Item, End, Refused as Not-handed}
 use Rattle.promises.proofs.OneList as One-list
+use Rattle.promises.proofs.Refused.{Because, verdict-by, because}
 use Rattle.promises.proofs.Unique as Unique
 use Rattle.promises.proofs.WorkedRows as Rows
 use Rattle.promises.proofs.Sides as Sides
 
 -- ---- Demand 1. Every table, number and row of cells gets an answer, and a refusal changes no lent cell: one outcome for every input, and a refusal's
 -- buffer is as it was.
+-- A table that breaks a rule is refused by that rule's number and the node that broke it: a verdict is what it is for one of five reasons, and for no other.
+verdict-exactly : (t p : List ℕ) (v : Verdict) → (verdict t p ≡ v → Because t p v) × (Because t p v → verdict t p ≡ v)
+verdict-exactly t p v = (λ e. subst (Because t p) e (because t p), λ b. verdict-by t p b)
+
 one-verdict : (t p : List ℕ) {v w : Verdict} → answer v ≡ checkSays t p → answer w ≡ checkSays t p → v ≡ w
 one-verdict t p e f = Unique.one-verdict t p e f
 

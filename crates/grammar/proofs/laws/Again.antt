@@ -11,9 +11,12 @@ use Rattle.grammar.proofs.KindLaw.{KindLaw, Plain}
 use Rattle.grammar.specs.kinds.Fix.{passRule}
 use Rattle.grammar.specs.kinds.Again.{again}
 use Rattle.grammar.proofs.laws.Fix.{pass-rule}
+use Rattle.grammar.specs.Refusals.{numberOf}
 
 pub again-law : KindLaw again
+unfolding numberOf
 again-law = record {
+  gives = λ v z. refl;
   sees = λ v z h. refl;
   lawful = λ v z r h.
       let l = and-left (ltb (v .own) (v .a) && ltb (v .a) (v .nodes)) _ (h .0) in

@@ -18,6 +18,7 @@ use Rattle.grammar.specs.Kind.{Node, before}
 use Rattle.grammar.proofs.Trees.{spell-done, spell-takes, spell-left, read-pick, names-pick}
 use Rattle.grammar.proofs.KindLaw.{KindLaw, Lower, Plain}
 use Rattle.grammar.specs.kinds.Below.{belowRule, below}
+use Rattle.grammar.specs.Refusals.{numberOf}
 
 below-rule : (z : ℕ → Size) (count a : ℕ) → Lawful z count (belowRule a)
 unfolding belowRule
@@ -36,7 +37,9 @@ pub below-most : (v : Node) (z : ℕ → Size) → Holds (below .checks v z) →
 below-most v z h = leb-true (v .a) (2 ^ 62) (and-right (leb 1 (v .a)) _ (h .0))
 
 pub below-law : KindLaw below
+unfolding numberOf
 below-law = record {
+  gives = λ v z. refl;
   sees = λ v z h. refl;
   lawful = λ v z r h. below-rule z (v .nodes) (v .a);
   fit = λ v z f h. unfold belowRule in (leb-true 1 (v .a) (and-left _ _ (h .0)), below-most v (before z (v .own)) h);

@@ -19,6 +19,7 @@ use native.Mathlib.Nat.{mul-le-mul}
 use Rattle.numbers.specs.Cons
 use Rattle.numbers.proofs.cons.Laws as Conses
 use Rattle.grammar.specs.kinds.Cons.{both, consRule, cons}
+use Rattle.grammar.specs.Refusals.{numberOf}
 
 cons-rule : (z : ℕ → Size) (count a b : ℕ) → a < count → b < count → Some (z a) → Some (z b) → Lawful z count (consRule (z a) (z b) a b)
 unfolding consRule
@@ -46,7 +47,9 @@ fit-times (finite s) endless h k e = tt
 fit-times endless t h k e = tt
 
 pub cons-law : KindLaw cons
+unfolding numberOf
 cons-law = record {
+  gives = λ v z. refl;
   sees = λ v z h. rw (lower-both v (h .0) .0, lower-both v (h .0) .1);
   lawful = λ v z r h.
       let (ea, eb) = lower-both v (h .0) in

@@ -30,6 +30,7 @@ use Rattle.grammar.specs.Checks.{count as countOf}
 use Rattle.grammar.proofs.Runs.{every-at}
 use Rattle.grammar.specs.kinds.Dep.{counts, secondsOf, chosen, depRule, dep}
 use Rattle.grammar.proofs.Seconds.{seconds-firsts, seconds-size, seconds-second}
+use Rattle.grammar.specs.Refusals.{numberOf}
 
 few-count : (s : Size) → few s ≡ true → Some s → 0 < countOf s
 few-count (finite m) e h = h
@@ -176,7 +177,9 @@ module _ (v : Node) (z : ℕ → Size) (f : (i : ℕ) → i < v .own → Fit (z 
   seconds-many = rw seconds-long (few-count (z (v .a)) (d .small) first-some)
 
 pub dep-law : KindLaw dep
+unfolding numberOf
 dep-law = record {
+  gives = λ v z. refl;
   sees = λ v z h.
       let cs = seconds (v .pool) (v .b) (z (v .a)) in
       let l = shows v z h .lower in

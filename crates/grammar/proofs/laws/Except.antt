@@ -24,6 +24,7 @@ use Rattle.numbers.specs.Except
 use Rattle.numbers.proofs.size.Laws.{below-is}
 use Rattle.numbers.proofs.except.Laws as Excepts
 use Rattle.grammar.specs.kinds.Except.{exceptRule, except}
+use Rattle.grammar.specs.Refusals.{numberOf}
 
 pub except-rule : (z : ℕ → Size) (count a b : ℕ) → a < count → Below b (z a) → Lawful z count (exceptRule (z a) a b)
 unfolding exceptRule
@@ -49,7 +50,9 @@ fit-less (finite s) h e = let ne = eqb-false s 1 (not-true (eqb s 1) e) in (omeg
 fit-less endless h e = tt
 
 pub except-law : KindLaw except
+unfolding numberOf
 except-law = record {
+  gives = λ v z. refl;
   sees = λ v z h. rw (h .0);
   lawful = λ v z r h.
       let la = ltb-true (v .a) (v .own) (h .0) in

@@ -16,6 +16,7 @@ use Rattle.grammar.proofs.Tests.{is-endless}
 use Rattle.grammar.proofs.Trees.{spell-done, spell-reads}
 use Rattle.grammar.proofs.KindLaw.{KindLaw, Lower, Plain}
 use Rattle.grammar.specs.kinds.Fix.{passRule, fix}
+use Rattle.grammar.specs.Refusals.{numberOf}
 
 pub pass-rule : (z : ℕ → Size) (count a : ℕ) → a < count → z a ≡ endless → Lawful z count (passRule a)
 unfolding passRule
@@ -30,7 +31,9 @@ pass-rule z count a l e = record {
 }
 
 pub fix-law : KindLaw fix
+unfolding numberOf
 fix-law = record {
+  gives = λ v z. refl;
   sees = λ v z h. refl;
   lawful = λ v z r h.
       let la = ltb-true (v .a) (v .own) (h .0) in

@@ -25,7 +25,7 @@ nats-rule z count = record {
 }
 
 pub nats-law : KindLaw nats
-nats-law = record { sees = λ v z h. refl; lawful = λ v z r h. nats-rule z (v .nodes); fit = λ v z f h. unfold natsRule in tt }
+nats-law = record { gives = λ v z. refl; sees = λ v z h. refl; lawful = λ v z r h. nats-rule z (v .nodes); fit = λ v z f h. unfold natsRule in tt }
 
 pub nats-lower : Lower nats
 unfolding natsRule

@@ -21,6 +21,7 @@ use Rattle.numbers.specs.declared.or.Part.the-variants.{First, Second}
 use Rattle.numbers.proofs.Tests.{pick-by}
 use Rattle.numbers.proofs.or.Laws as Ors
 use Rattle.grammar.specs.kinds.Or.{tagged, orRule, or}
+use Rattle.grammar.specs.Refusals.{numberOf}
 
 -- the second part has a number below its own
 turn-above : (u : Size) (m : ℕ) → Some u → m < turn 1 u m
@@ -62,7 +63,9 @@ module _ (z : ℕ → Size) (count a b : ℕ) where
   }
 
 pub or-law : KindLaw or
+unfolding numberOf
 or-law = record {
+  gives = λ v z. refl;
   sees = λ v z h. rw (lower-both v (h .0) .0, lower-both v (h .0) .1);
   lawful = λ v z r h.
       let (ea, eb) = lower-both v (h .0) in

@@ -25,6 +25,7 @@ use Rattle.grammar.specs.Checks.{different}
 use Rattle.grammar.proofs.Runs.{run-long, run-at}
 use Rattle.grammar.specs.kinds.Pool.{placeOf, poolRule, pool}
 use Rattle.grammar.proofs.Words.{place-in, word-at, word-in, place-word}
+use Rattle.grammar.specs.Refusals.{numberOf}
 
 module _ (z : ℕ → Size) (count b : ℕ) (ws : List ℕ) (long : length ws ≡ b) (diff : different ws ≡ true) where
   pool-rule : Lawful z count (poolRule ws b)
@@ -58,7 +59,9 @@ unfolding poolRule
 pool-at p a b n l h e = rw (e, run-at p a b l n h)
 
 pub pool-law : KindLaw pool
+unfolding numberOf
 pool-law = record {
+  gives = λ v z. refl;
   sees = λ v z h. refl;
   lawful = λ v z r h.
       let l = pool-in v (before z (v .own)) h .1 in

@@ -20,6 +20,7 @@ use Rattle.grammar.specs.Kind.{Node}
 use Rattle.grammar.proofs.Trees.{spell-done, spell-reads}
 use Rattle.grammar.proofs.KindLaw.{KindLaw, Lower, Plain}
 use Rattle.grammar.specs.kinds.Shift.{shiftRule, shift}
+use Rattle.grammar.specs.Refusals.{numberOf}
 
 shift-rule : (z : ℕ → Size) (count a k : ℕ) → a < count → Lawful z count (shiftRule (z a) a k)
 unfolding shiftRule
@@ -34,7 +35,9 @@ shift-rule z count a k l = record {
 }
 
 pub shift-law : KindLaw shift
+unfolding numberOf
 shift-law = record {
+  gives = λ v z. refl;
   sees = λ v z h. rw (h .0);
   lawful = λ v z r h. shift-rule z (v .nodes) (v .a) (v .b) (omega (arith, r .node, ltb-true (v .a) (v .own) (h .0)));
   fit = λ v z f h. unfold shiftRule in f (v .a) (ltb-true (v .a) (v .own) (h .0));
