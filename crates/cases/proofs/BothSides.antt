@@ -7,7 +7,7 @@
 --   read-then-written   what `read` finds the number of, `write` gives back, in any buffer that is long enough
 --   only-cases          `read` gives a number only for the cells of its case
 --   one-case, one-number   a number has one case, a case one number
---   no-case-begins      the same of cells at any depth, and of any two numbers
+--   no-case-begins      the same of cells at any depths, and of any two numbers
 --   reads-on, longer-refused, no-beginning   a case followed by anything is read to its end, so `read` refuses it, and no case is the beginning of a different one
 -- The reader of the crate `rows` goes on from there (`case-handed` of `Rattle.promises.proofs.OneList`).
 -- Assumes nothing.
@@ -37,6 +37,7 @@ use Rattle.cases.proofs.Meaning.{accepted-checked}
 use Rattle.checked.specs.Fits.{Asked}
 use Rattle.checked.proofs.Fitted.{cells-map}
 use Rattle.cases.proofs.Doors.{reads-is, left-over, found-number, number-found, writes-is, writes-done}
+use Rattle.walk.proofs.Ends.{deeper-cells}
 
 module _ (t p : List ℕ) (a : verdict t p ≡ Accepted) (i : ℕ) (l : i < nodes t) where
   abbrev z : ℕ → Size
@@ -113,6 +114,8 @@ module _ (t p : List ℕ) (a : verdict t p ≡ Accepted) (i : ℕ) (l : i < node
       let (r, d) = only-cases n (cs ++ more) f in
       prefix-free z (nodes t) (rulesOf t p) good depth i m n l (below q) (below r) cs (cs ++ more) more (c .shows) (d .shows) refl
 
-  pub no-case-begins : (d m n : ℕ) (cs more : List ℕ) → Below m (sizeAt (sizes t p) i) → Below n (sizeAt (sizes t p) i) → walk (rulesOf t p) d 0 i m ≡ map cell cs
-      → walk (rulesOf t p) d 0 i n ≡ map cell (cs ++ more) → (more ≡ []) × (m ≡ n)
-  no-case-begins d m n cs more h k e f = prefix-free z (nodes t) (rulesOf t p) good d i m n l h k cs (cs ++ more) more e f refl
+  pub no-case-begins : (d d' m n : ℕ) (cs more : List ℕ) → Below m (sizeAt (sizes t p) i) → Below n (sizeAt (sizes t p) i)
+      → walk (rulesOf t p) d 0 i m ≡ map cell cs → walk (rulesOf t p) d' 0 i n ≡ map cell (cs ++ more) → (more ≡ []) × (m ≡ n)
+  no-case-begins d d' m n cs more h k e f =
+      prefix-free z (nodes t) (rulesOf t p) good (d + d') i m n l h k cs (cs ++ more) more (deeper-cells (rulesOf t p) d (d + d') (omega arith) i m cs e)
+      (deeper-cells (rulesOf t p) d' (d + d') (omega arith) i n (cs ++ more) f) refl

@@ -2,7 +2,7 @@
 -- `check` says `checkSays`, `read` says `readSays`; `write` promises `Wrote`, `write_row` and `read_row` promise `WroteRow` and `GotRow`, the reader promises
 -- `Strode`: each in 01's numbers. None of them has a `requires`. Every statement is in full, every proof one citation.
 -- Assumes nothing.
-use mathlib.Core.Path.{_≡_, subst}
+use mathlib.Core.Path.{_≡_}
 use mathlib.Core.List.{List, [], _∷_, _++_, map}
 use Prim.Native.Nat.{ℕ, suc, _+_, _^_, _≤_, _<_}
 use lib.ListN.{length, take}
@@ -39,7 +39,8 @@ use Rattle.rows.specs.declared.answer.Row.the-variants.{Done as Row-done, Refus
 use Rattle.rows.specs.declared.reader.Next.{Next}
 use Rattle.rows.specs.declared.reader.Next.the-variants.{Item, End, Refused as Not-handed}
 use Rattle.promises.proofs.OneList as One-list
-use Rattle.promises.proofs.Refused.{Because, verdict-by, because}
+use Rattle.promises.proofs.Refused.{Because}
+use Rattle.promises.proofs.Refused as Reasons
 use Rattle.promises.proofs.Unique as Unique
 use Rattle.promises.proofs.WorkedRows as Rows
 use Rattle.promises.proofs.Sides as Sides
@@ -48,7 +49,7 @@ use Rattle.promises.proofs.Sides as Sides
 -- buffer is as it was.
 -- A table that breaks a rule is refused by that rule's number and the node that broke it: a verdict is what it is for one of five reasons, and for no other.
 verdict-exactly : (t p : List ℕ) (v : Verdict) → (verdict t p ≡ v → Because t p v) × (Because t p v → verdict t p ≡ v)
-verdict-exactly t p v = (λ e. subst (Because t p) e (because t p), λ b. verdict-by t p b)
+verdict-exactly = Reasons.verdict-exactly
 
 one-verdict : (t p : List ℕ) {v w : Verdict} → answer v ≡ checkSays t p → answer w ≡ checkSays t p → v ≡ w
 one-verdict t p e f = Unique.one-verdict t p e f
@@ -122,9 +123,9 @@ module _ (t p : List ℕ) (a : verdict t p ≡ Accepted) (i : ℕ) (l : i < node
       ≡ Not-found NotACase 0
   longer-refused = Both-sides.longer-refused t p a i l
 
-  -- for cells at any depth, and of any two numbers, whether or not `read` gives them (a case whose number is 2^62 or more is one too)
-  no-case-begins : (d m n : ℕ) (cs more : List ℕ) → Below m (sizeAt (sizes t p) i) → Below n (sizeAt (sizes t p) i) → walk (rulesOf t p) d 0 i m ≡ map cell cs
-      → walk (rulesOf t p) d 0 i n ≡ map cell (cs ++ more) → (more ≡ []) × (m ≡ n)
+  -- at any depths, and for any two numbers, whether or not `read` gives them (a case whose number is 2^62 or more is one too)
+  no-case-begins : (d d' m n : ℕ) (cs more : List ℕ) → Below m (sizeAt (sizes t p) i) → Below n (sizeAt (sizes t p) i)
+      → walk (rulesOf t p) d 0 i m ≡ map cell cs → walk (rulesOf t p) d' 0 i n ≡ map cell (cs ++ more) → (more ≡ []) × (m ≡ n)
   no-case-begins = Both-sides.no-case-begins t p a i l
 
   row-there-and-back : {ns : List ℕ} {css : List (List ℕ)} → Cut (rulesOf t p) i ns css → {old last old' last' : List ℕ} {w r : Row}

@@ -2,9 +2,9 @@
 --   Passes     a table whose lengths are right and whose nodes all pass their rows
 --   Because    the five reasons of a verdict: 1, the lengths; 2 to 8, every node below k passes its row and k's row fails first with r; 9, the lowest node on
 --              an unguarded cycle; 10, the lowest except on a cycle; and none of these
---   verdict-by each reason has its verdict; because each verdict has its reason
+--   verdict-by, because, verdict-exactly   each reason has its verdict, each verdict its reason; both
 -- Assumes nothing.
-use mathlib.Core.Path.{_≡_, refl}
+use mathlib.Core.Path.{_≡_, refl, subst}
 use mathlib.Core.Bool.{Bool, true, false}
 use mathlib.Core.Logic.{⊎-elim}
 use mathlib.Core.List.{List}
@@ -83,3 +83,6 @@ module _ (t p : List ℕ) where
       by-lengths : (b : Bool) → lengths t p ≡ b → Because t p (verdict t p)
       by-lengths false e = of (by-length e)
       by-lengths true e = by-scan e (scan t p (nodes t)) refl
+
+pub verdict-exactly : (t p : List ℕ) (v : Verdict) → (verdict t p ≡ v → Because t p v) × (Because t p v → verdict t p ≡ v)
+verdict-exactly t p v = (λ e. subst (Because t p) e (because t p), λ b. verdict-by t p b)

@@ -2,8 +2,9 @@
 --   Ranked      what two ranks of the nodes must do at each step of a rule
 --   every-number   a case at some depth
 --   walk-some      every case has at least one cell
+--   deeper-cells   a walk that ends has the same cells at every greater depth
 -- Assumes nothing.
-use mathlib.Core.Path.{_≡_, refl, subst, ap}
+use mathlib.Core.Path.{_≡_, refl, subst, ap, _∙_}
 use mathlib.Core.Bool.{true, false}
 use mathlib.Core.Logic.{⊎-elim}
 use mathlib.Core.List.{List, [], _∷_, _++_, map, List·Memᴰ}
@@ -84,20 +85,34 @@ walk-some z count g good (suc d) i n l h up =
 
 -- ---- depth enough
 module _ (g : ℕ → Rule) where
-  shown-more : (go go' : ℕ → ℕ → ℕ → List Event) → ((up p m : ℕ) → Whole (go up p m) → Whole (go' up p m)) → (up : ℕ) (is : List Item)
-      → Whole (shown go up is) → Whole (shown go' up is)
+  shown-same : (go go' : ℕ → ℕ → ℕ → List Event) → ((up p m : ℕ) → Whole (go up p m) → go' up p m ≡ go up p m) → (up : ℕ) (is : List Item)
+      → Whole (shown go up is) → shown go' up is ≡ shown go up is
   unfolding shown
-  shown-more go go' f up [] w = tt
-  shown-more go go' f up (own c ∷ is) w = shown-more go go' f 0 is w
-  shown-more go go' f up (part p m k ∷ is) w =
-      whole-both (go' (up + k) p m) (shown go' 0 is) (f (up + k) p m (whole-left (go (up + k) p m) (shown go 0 is) w))
-      (shown-more go go' f 0 is (whole-right (go (up + k) p m) (shown go 0 is) w))
+  shown-same go go' f up [] w = refl
+  shown-same go go' f up (own c ∷ is) w = ap (λ (es : List Event). cell (c + up) ∷ es) (shown-same go go' f 0 is w)
+  shown-same go go' f up (part p m k ∷ is) w =
+      rw (
+        f (up + k) p m (whole-left (go (up + k) p m) (shown go 0 is) w),
+        shown-same go go' f 0 is (whole-right (go (up + k) p m) (shown go 0 is) w),
+      )
+
+  -- a walk that ends shows the same at every depth from there on
+  pub deeper-same : (d d' : ℕ) → d ≤ d' → (up i n : ℕ) → Whole (walk g d up i n) → walk g d' up i n ≡ walk g d up i n
+  unfolding walk
+  deeper-same zero d' l up i n w = absurd w
+  deeper-same (suc d) zero l up i n w = absurd (not-suc-le-zero l)
+  deeper-same (suc d) (suc d') l up i n w = shown-same (walk g d) (walk g d') (deeper-same d d' (le-of-suc-le-suc l)) up (g i .items n) w
 
   pub deeper : (d d' : ℕ) → d ≤ d' → (up i n : ℕ) → Whole (walk g d up i n) → Whole (walk g d' up i n)
-  unfolding walk
-  deeper zero d' l up i n w = absurd w
-  deeper (suc d) zero l up i n w = absurd (not-suc-le-zero l)
-  deeper (suc d) (suc d') l up i n w = shown-more (walk g d) (walk g d') (deeper d d' (le-of-suc-le-suc l)) up (g i .items n) w
+  deeper d d' l up i n w = rw (deeper-same d d' l up i n w) w
+
+  pub cells-whole : (cs : List ℕ) → Whole (map cell cs)
+  cells-whole [] = tt
+  cells-whole (c ∷ cs) = cells-whole cs
+
+  -- the cells of a walk that ends, at a greater depth
+  pub deeper-cells : (d d' : ℕ) → d ≤ d' → (i n : ℕ) (cs : List ℕ) → walk g d 0 i n ≡ map cell cs → walk g d' 0 i n ≡ map cell cs
+  deeper-cells d d' l i n cs e = deeper-same d d' l 0 i n (rw e (cells-whole cs)) ∙ e
 
   pub record Ended (i n : ℕ) : Type 0 where
     pub depth : ℕ
@@ -119,7 +134,7 @@ module _ (g : ℕ → Rule) where
       (λ l. (
         a .depth,
         λ up. whole-both (walk g (a .depth) (up + k) p m) (shown (walk g (a .depth)) 0 is) (a .whole (up + k))
-            (shown-more (walk g (r .0)) (walk g (a .depth)) (deeper (r .0) (a .depth) (omega arith)) 0 is (r .1 0)),
+            (rw (shown-same (walk g (r .0)) (walk g (a .depth)) (deeper-same (r .0) (a .depth) (omega arith)) 0 is (r .1 0)) (r .1 0)),
       ))
       (le-or-lt (a .depth) (r .0))
 
