@@ -13,8 +13,9 @@ use native.Mathlib.Nat.{not-suc-le-zero, le-of-suc-le-suc, eq-or-lt-of-le}
 use native.Mathlib.Omega.{arith}
 use lib.Dec.{leb}
 use lib.ListN.{length, take}
+use lib.Seq.{take-suc, getD-take, take-all}
 use borrow.Author.Tests.{leb-true}
-use Rattle.numbers.specs.Size.{Size}
+use Rattle.numbers.specs.Size.{Size, finite}
 use Rattle.numbers.proofs.Tests.{and-left, and-right}
 use Rattle.graph.proofs.Marks.{same?}
 use Rattle.grammar.specs.Table.{kindOf, aOf, bOf, nodes}
@@ -94,32 +95,16 @@ module _ (t p : List ℕ) where
       record { node = l; zs = zs; many = scan-long t p k q; passes = rows-of k q; fails = f }
 
 -- ---- and back
-take-more : (zs : List Size) (n : ℕ) → n < length zs → take n zs ++ (sizeAt zs n ∷ []) ≡ take (suc n) zs
-take-more [] n l = absurd (not-suc-le-zero l)
-take-more (z ∷ zs) zero l = refl
-take-more (z ∷ zs) (suc n) l = ap (λ (ys : List Size). z ∷ ys) (take-more zs n (le-of-suc-le-suc l))
-
-take-at : (zs : List Size) (n i : ℕ) → i < n → sizeAt (take n zs) i ≡ sizeAt zs i
-take-at [] zero i l = absurd (not-suc-le-zero l)
-take-at [] (suc n) i l = refl
-take-at (z ∷ zs) zero i l = absurd (not-suc-le-zero l)
-take-at (z ∷ zs) (suc n) zero l = refl
-take-at (z ∷ zs) (suc n) (suc i) l = take-at zs n i (le-of-suc-le-suc l)
-
-take-all : (zs : List Size) → take (length zs) zs ≡ zs
-take-all [] = refl
-take-all (z ∷ zs) = ap (λ (ys : List Size). z ∷ ys) (take-all zs)
-
 module _ {t p : List ℕ} {r : Refusal} {k : ℕ} (h : FirstFault t p r k) where
   scan-front : (n : ℕ) → n ≤ k → scan t p n ≡ passed (take n (h .zs))
   unfolding scan onward
   scan-front zero l = refl
   scan-front (suc n) l =
-      let row-is = row-same t p (sizeAt (take n (h .zs))) (sizeAt (h .zs)) n (λ i m. take-at (h .zs) n i m) ∙ h .passes n (omega arith) in
-      rw (scan-front n (omega arith), row-is, take-more (h .zs) n (omega (arith, h .many)))
+      let row-is = row-same t p (sizeAt (take n (h .zs))) (sizeAt (h .zs)) n (λ i m. getD-take n (h .zs) i (finite 0) m) ∙ h .passes n (omega arith) in
+      rw (scan-front n (omega arith), row-is, ← take-suc (h .zs) n (finite 0) (omega (arith, h .many)))
 
   pub scan-by : scan t p (nodes t) ≡ faulty r k
   unfolding scan onward
   scan-by =
-      let front : scan t p k ≡ passed (h .zs) = scan-front k (omega arith) ∙ ap passed (rw (← h .many) (take-all (h .zs))) in
+      let front : scan t p k ≡ passed (h .zs) = scan-front k (omega arith) ∙ ap passed (take-all k (h .zs) (omega (arith, h .many))) in
       stays t p (nodes t) (suc k) (h .node) (rw (front, h .fails))

@@ -1,12 +1,10 @@
 -- 01's values tell answers apart.
 --   refusalOf     the refusal with a number, where there is one
---   number-back   a refusal is the one with its number
---   numbered      no refusal has number 0
 --   by-refusal    an answer by its refusal number: done at 0, else refused
+--   refused-back  a refusal's number gives it back
 --   answer-one    two verdicts with the same values are the same verdict
 -- Assumes nothing.
 use mathlib.Core.Path.{_≡_, refl, sym, ap, _∙_}
-use mathlib.Core.Bool.{false}
 use mathlib.Core.List.{List, [], _∷_}
 use Prim.Native.Nat.{ℕ}
 use lib.Dec.{eqb}
@@ -30,50 +28,28 @@ refusals =
 abbrev pub refusalOf : ℕ → Refusal
 refusalOf n = getD refusals n Length
 
-pub number-back : (r : Refusal) → refusalOf (numberOf r) ≡ r
-unfolding numberOf
-number-back Length = refl
-number-back Kind = refl
-number-back SpareWord = refl
-number-back Reference = refl
-number-back Range = refl
-number-back Repeat = refl
-number-back UnsuitedPart = refl
-number-back TooLarge = refl
-number-back Unguarded = refl
-number-back ExceptOnCycle = refl
-number-back NoSuchStart = refl
-number-back NoSuchNumber = refl
-number-back TooDeep = refl
-number-back NoRoom = refl
-number-back NotACase = refl
-number-back NumberTooLarge = refl
-
-pub numbered : (r : Refusal) → eqb (numberOf r) 0 ≡ false
-unfolding numberOf
-numbered Length = refl
-numbered Kind = refl
-numbered SpareWord = refl
-numbered Reference = refl
-numbered Range = refl
-numbered Repeat = refl
-numbered UnsuitedPart = refl
-numbered TooLarge = refl
-numbered Unguarded = refl
-numbered ExceptOnCycle = refl
-numbered NoSuchStart = refl
-numbered NoSuchNumber = refl
-numbered TooDeep = refl
-numbered NoRoom = refl
-numbered NotACase = refl
-numbered NumberTooLarge = refl
-
 -- d where it is 0, else f of the refusal
 abbrev pub by-refusal : {A : Type 0} → ℕ → A → (Refusal → A) → A
 by-refusal n d f = pick (eqb n 0) d (f (refusalOf n))
 
 pub refused-back : {A : Type 0} (d : A) (f : Refusal → A) (r : Refusal) → by-refusal (numberOf r) d f ≡ f r
-refused-back d f r = rw (numbered r, number-back r)
+unfolding numberOf
+refused-back d f Length = refl
+refused-back d f Kind = refl
+refused-back d f SpareWord = refl
+refused-back d f Reference = refl
+refused-back d f Range = refl
+refused-back d f Repeat = refl
+refused-back d f UnsuitedPart = refl
+refused-back d f TooLarge = refl
+refused-back d f Unguarded = refl
+refused-back d f ExceptOnCycle = refl
+refused-back d f NoSuchStart = refl
+refused-back d f NoSuchNumber = refl
+refused-back d f TooDeep = refl
+refused-back d f NoRoom = refl
+refused-back d f NotACase = refl
+refused-back d f NumberTooLarge = refl
 
 verdictOf : Answer → Verdict
 verdictOf a = by-refusal (a .refusal) Accepted (λ r. Refused r (a .node))
