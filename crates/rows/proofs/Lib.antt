@@ -5,4 +5,4 @@ pub mod Gathering
 pub mod Cuts
 pub mod Answers
 pub mod Outcomes
-mod Lent
+pub mod Lent

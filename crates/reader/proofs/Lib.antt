@@ -1,0 +1,2 @@
+-- What the walk of the asks cites.
+mod Asks

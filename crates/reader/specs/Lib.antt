@@ -1,0 +1,2 @@
+-- What the reader's program promises.
+pub mod Asked
