@@ -59,7 +59,8 @@ pub row-same : (t p : List ℕ) (z z' : ℕ → Size) (n : ℕ) → ((i : ℕ) �
 unfolding rowAt ruleAt
 row-same t p z z' n f =
     let k = kindIn (kindOf t n) in
-    ap (λ (y : ℕ → Size). row (asks (spare k (aOf t n) (bOf t n)) SpareWord ∷ k .checks (nodeAt t p n) y) (k .rule (aOf t n) (bOf t n) p y .size)) (before-same z z' n f)
+    ap (λ (y : ℕ → Size). row (asks (spare k (aOf t n) (bOf t n)) SpareWord ∷ k .checks (nodeAt t p n) y) (k .rule (aOf t n) (bOf t n) p y .size))
+    (before-same z z' n f)
 
 -- ---- the scan
 sized-of : (n : ℕ) (zs : List Size) {ys : List Size} (r : Row) → noted n zs r ≡ passed ys → (s : Size) × (r ≡ sized s) × (ys ≡ zs ++ (s ∷ []))

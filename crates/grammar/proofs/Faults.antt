@@ -68,9 +68,11 @@ module _ (t p : List ℕ) where
       let old : (k : ℕ) → k ≤ n → (i : ℕ) → i < k → sizeAt (ys ++ (s ∷ [])) i ≡ sizeAt ys i = λ k m i o. at-other ys s i (λ x. omega arith) in
       rw f
       (⊎-elim (λ same. rw same (row-same t p _ (sizeAt ys) n (old n (omega arith)) ∙ r ∙ ap sized (sym (at-end ys s n (sym long)))))
-      (λ other. row-same t p _ (sizeAt ys) j (old j (omega arith)) ∙ rows-of n q j (omega arith) ∙ ap sized (sym (at-other ys s j (λ x. omega arith)))) (same? j n))
+      (λ other. row-same t p _ (sizeAt ys) j (old j (omega arith)) ∙ rows-of n q j (omega arith) ∙ ap sized (sym (at-other ys s j (λ x. omega arith))))
+      (same? j n))
 
-  fault-of : (n : ℕ) {r : Refusal} {k : ℕ} → scan t p n ≡ faulty r k → (k < n) × ((zs : List Size) × (scan t p k ≡ passed zs) × (rowAt t p (sizeAt zs) k ≡ fault r))
+  fault-of : (n : ℕ) {r : Refusal} {k : ℕ} → scan t p n ≡ faulty r k
+      → (k < n) × ((zs : List Size) × (scan t p k ≡ passed zs) × (rowAt t p (sizeAt zs) k ≡ fault r))
   unfolding scan onward
   fault-of zero e = let z : _≡_ {A = ℕ} 0 1 = cc in absurd (omega arith)
   fault-of (suc n) {r} {k} e = by (scan t p n) refl e (fault-of n)

@@ -1,25 +1,22 @@
 -- The answers of one reader, an ask at a time.
---   Said     what `next` says of an ask: the answer, and the reader that is left
 --   an-ask   an ask and those after it
 --   four     four asks of a reader that was made over a row
 -- Assumes nothing.
-use mathlib.Core.Path.{_≡_, refl, ap, _∙_}
+use mathlib.Core.Path.{_≡_, refl}
 use mathlib.Core.List.{List, [], _∷_}
 use Prim.Native.Nat.{ℕ, suc}
 use denote.Ref.{RefT, now}
-use Rattle.rows.specs.Reader.{NextAnswer, nextAnswer, Strode}
+use Rattle.rows.specs.Reader.{NextAnswer, nextAnswer}
 use Rattle.rows.specs.declared.reader.Reader.{Reader}
 use Rattle.rows.specs.declared.reader.Next.{Next}
+use Rattle.rows.proofs.Asking.{Asker, Said}
 use Rattle.reader.specs.Asked.{asked, Asked}
 
-module _ (t p : List ℕ) (i : ℕ) where
-  abbrev pub Said : Reader → Next → Reader → Type 0
-  Said y n z = Strode t p i (now (y .row)) (y .at) n (z .at) × (z .row ≡ y .row)
-
+module _ (c : Asker) where
   abbrev Asks : Reader → ℕ → List NextAnswer → Type 0
-  Asks y k l = l ≡ asked t p i (now (y .row)) (y .at) k
+  Asks y k l = l ≡ asked (now (c .t)) (now (c .p)) (c .st) (now (y .row)) (y .at) k
 
-  an-ask : {y z : Reader} {n : Next} (k : ℕ) {l : List NextAnswer} → Said y n z → Asks z k l → Asks y (suc k) (nextAnswer n ∷ l)
+  an-ask : {y z : Reader} {n : Next} (k : ℕ) {l : List NextAnswer} → Said c y n z → Asks z k l → Asks y (suc k) (nextAnswer n ∷ l)
   unfolding asked
   an-ask {y} {z} {n} k {l} (h, same) rest = rw (h .says, rest, same, h .goes)
 
@@ -27,6 +24,6 @@ module _ (t p : List ℕ) (i : ℕ) where
   unfolding asked
   none y = refl
 
-  pub four : (s : RefT (List ℕ)) {y a b c d : Reader} {k l m n : Next} → (y .row ≡ s) × (y .at ≡ 0) → Said y k a → Said a l b → Said b m c → Said c n d
-      → Asked t p i (now s) (record { first = k; second = l; third = m; fourth = n })
-  four s {y} {a} {b} {c} {d} (over, front) e f g h = rw (← over, ← front) (an-ask 3 e (an-ask 2 f (an-ask 1 g (an-ask 0 h (none d)))))
+  pub four : (s : RefT (List ℕ)) {y a b d e : Reader} {k l m n : Next} → (y .row ≡ s) × (y .at ≡ 0) → Said c y k a → Said c a l b → Said c b m d → Said c d n e
+      → Asked (now (c .t)) (now (c .p)) (c .st) (now s) (record { first = k; second = l; third = m; fourth = n })
+  four s {y} {a} {b} {d} {e} (over, front) f g h i = rw (← over, ← front) (an-ask 3 f (an-ask 2 g (an-ask 1 h (an-ask 0 i (none e)))))

@@ -106,7 +106,8 @@ module _ (t p : List ℕ) (a : verdict t p ≡ Accepted) (i : ℕ) (l : i < node
       → (ns : List ℕ) × (css : List (List ℕ)) × (rest : List ℕ) × Cut g i ns css × (row ≡ joined css ++ rest) × (item ≡ length ns) ×
       (next g i rest ≡ Not-handed r 0)
   got-stopped {row} {old} {last} {r} {item} h f =
-      cut-stopped t p a i l (length old) row item f (answered-stopped (length row) (gather g i (length old) row) (sym (got-row-is h ∙ reads-row-is (length old) row)))
+      cut-stopped t p a i l (length old) row item f (answered-stopped (length row) (gather g i (length old) row) (sym (got-row-is h ∙ reads-row-is
+      (length old) row)))
 
   -- ---- the reader
   module _ {ns : List ℕ} {css : List (List ℕ)} (cut : Cut g i ns css) (row : List ℕ) {m : ℕ} (many : m ≡ length ns) where

@@ -6,3 +6,4 @@ pub mod Cuts
 pub mod Answers
 pub mod Outcomes
 pub mod Lent
+pub mod Asking

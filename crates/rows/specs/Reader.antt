@@ -1,4 +1,5 @@
--- What the reader promises. 01: "The reader checks table and start at each call, then, standing at or past the row's end, returns 0 with 0 items and 0 cells and stays;
+-- What the reader promises. 01: "The reader checks table and start at each call, then, standing at or past the row's end, returns 0 with 0 items and 0 cells
+-- and stays;
 -- else it answers as row reading does for one item and moves past it. After a refusal it stays."
 --   nextOf     the answer at a place of a row
 --   afterOf    the place after it

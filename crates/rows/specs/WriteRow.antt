@@ -1,4 +1,5 @@
--- What `write_row` promises. 01: "items in order; the first that is refused stops the call .. Writing: 12, then the walk with the room left .. A row of no items is done."
+-- What `write_row` promises. 01: "items in order; the first that is refused stops the call .. Writing: 12, then the walk with the room left .. A row of no
+-- items is done."
 --   inTurn      the answer for the numbers, with a room
 --   RowOver     the same, over a buffer
 --   rowOf       the cases of the numbers, one after another with no marks between
