@@ -5,3 +5,5 @@ pub mod Copying
 pub mod Fitting
 pub mod Fitted
 pub mod Standing
+pub mod Placing
+pub mod Opens

@@ -1,20 +1,22 @@
--- What the code of `got_at` and `item_at` has found, in the words of their promises.
+-- What the code of `got_at`, `item_at` and `read_case` has found, in the words of their promises.
 --   row-few, within                    the cells that are lent to the walk, and the place after those that it read
---   met-below, met-beyond, met-wrong   by the word that the walk handed back
---   stood-number, stood-large, stood-wrong   by what was met, and 16
+--   met-case, met-wrong                by the word that the walk handed back
+--   item-small, item-large             by 16
+--   stood-item, stood-wrong            by what was met, and 16
+--   whole-more, whole-item, whole-wrong   of a whole case
 -- Assumes nothing.
-use mathlib.Core.Path.{_≡_, sym, subst, ap, _∙_}
+use mathlib.Core.Path.{_≡_, refl, sym, subst, ap, _∙_}
 use mathlib.Core.Logic.{⊎-elim}
-use mathlib.Core.List.{List}
+use mathlib.Core.List.{List, []}
 use Prim.Native.Nat.{ℕ, _+_, _-_, _^_, _≤_, _<_}
 use native.Mathlib.Omega.{arith}
 use lib.Dec.{leb}
-use lib.ListN.{length, take, drop, length-append, length-take, length-drop, length-map}
-use lib.Seq.{drop-drop, take-all, take-length}
+use lib.ListN.{length, take, drop, length-append, length-take, length-drop, length-map, drop-of-length-le}
+use lib.Seq.{drop-cons, drop-drop, take-all, take-length}
 use borrow.Author.Tests.{lt-ltb, le-ltb}
 use Rattle.graph.proofs.Marks.{le-or-lt}
 use Rattle.grammar.specs.declared.refusal.Refusal.{Refusal}
-use Rattle.grammar.specs.declared.refusal.Refusal.the-variants.{NumberTooLarge}
+use Rattle.grammar.specs.declared.refusal.Refusal.the-variants.{NotACase, NumberTooLarge}
 use Rattle.grammar.specs.Plan.{sizeIn, ruleIn}
 use Rattle.walk.specs.Walk.{cell, walk, depth}
 use Rattle.walk.specs.Room.{most}
@@ -24,10 +26,11 @@ use Rattle.walk.specs.Plan.{Reading}
 use Rattle.walk.proofs.Only.{only}
 use Rattle.walk.proofs.Ends.{walk-some}
 use Rattle.checked.specs.Fits.{roomFor}
-use Rattle.checked.specs.Met.{MetBy, Met}
-use Rattle.checked.specs.Item.{frontOf, Stood}
+use Rattle.checked.specs.Met.{Worded, MetBy, Met}
+use Rattle.checked.specs.Item.{number, frontOf, wholeOf, itemOf, Stood}
 use Rattle.checked.specs.declared.item.Got.{Got}
-use Rattle.checked.specs.declared.item.Got.the-variants.{Below, Beyond, Wrong}
+use Rattle.checked.specs.declared.item.Got.the-variants.{Case, Wrong}
+use Rattle.checked.specs.declared.item.Item.{Item}
 use Rattle.checked.specs.declared.item.Item.the-variants.{Number, Not}
 
 take-few : (l : List ℕ) {k : ℕ} → k ≡ roomFor (length l) → take k l ≡ take most l
@@ -64,28 +67,19 @@ module _ {plan p : List ℕ} {i : ℕ} (h : Reading plan p i) where
     after : drop used (drop at cells) ≡ drop (at + used) cells
     after = drop-drop used at cells
 
-    pub met-below : word < 2 ^ 62 → Met walked cells at (Below word (at + used))
-    met-below l = record { is = by took }
+    pub met-case : word ≤ 2 ^ 63 → Met walked cells at (Case word (at + used))
+    met-case u = record { is = by took }
       where
-        by : Took least walked (drop at cells) most used word → MetBy walked cells at (Below word (at + used))
-        by (exact s e) =
-            let g : walked ≡ read word (most - used) (drop (at + used) cells) = e ∙ rw after in (
-              most - used,
-              g,
-              l,
-              omega (arith, some-read (drop at cells) g, length-drop (at + used) cells, length-drop at cells, within (omega arith)),
-              within
-                  (omega arith),
-            )
-        by (large s m k e) = absurd (omega arith)
-        by (stops s e) = absurd (omega arith)
+        on : {n : ℕ} → walked ≡ read n (most - used) (drop (at + used) cells) → at < at + used
+        on g = omega (arith, some-read (drop at cells) g, length-drop (at + used) cells, length-drop at cells, within u)
 
-    pub met-beyond : 2 ^ 62 ≤ word → word ≤ 2 ^ 63 → Met walked cells at (Beyond (at + used))
-    met-beyond l u = record { is = by took }
-      where
-        by : Took least walked (drop at cells) most used word → MetBy walked cells at (Beyond (at + used))
-        by (exact s e) = (word, most - used, e ∙ rw after, l, within u)
-        by (large s m k e) = (m, most - used, e ∙ rw after, omega arith, within u)
+        by : Took least walked (drop at cells) most used word → MetBy walked cells at (Case word (at + used))
+        by (exact s e) =
+            let g : walked ≡ read word (most - used) (drop (at + used) cells) = e ∙ rw after in
+            (word, most - used, g, record { small = λ l. refl; large = λ l. l }, on g, within u)
+        by (large s m k e) =
+            let g : walked ≡ read m (most - used) (drop (at + used) cells) = e ∙ rw after in
+            (m, most - used, g, record { small = λ l. absurd (omega arith); large = λ l. omega arith }, on g, within u)
         by (stops s e) = absurd (omega arith)
 
     pub met-wrong : 2 ^ 63 < word → {r : Refusal} → r ≡ whyOf (leb most (length cells - at)) word → Met walked cells at (Wrong r)
@@ -97,18 +91,44 @@ module _ {plan p : List ℕ} {i : ℕ} (h : Reading plan p i) where
         by (stops s e) = e ∙ rw (length-drop at cells, g)
 
 -- ---- the walk, then 16
+pub item-small : (word next : ℕ) → word < 2 ^ 62 → Number word next ≡ itemOf word next
+unfolding itemOf
+item-small word next l = rw (lt-ltb word (2 ^ 62) l)
+
+pub item-large : (word next : ℕ) → 2 ^ 62 ≤ word → Not NumberTooLarge ≡ itemOf word next
+unfolding itemOf
+item-large word next l = rw (le-ltb word (2 ^ 62) l)
+
+item-of : {cells rest : List ℕ} {at word next : ℕ} (n q : ℕ) → rest ≡ drop next cells → Worded n word → at < next → next ≤ length cells
+    → Stood (frontOf (read n q rest)) cells at (itemOf word next)
+unfolding frontOf itemOf
+item-of {word = word} n q e s l u = ⊎-elim
+    (λ m. rw (le-ltb word (2 ^ 62) m, le-ltb n (2 ^ 62) (s .large m)) (record { is = refl }))
+    (λ m. rw (lt-ltb word (2 ^ 62) m, s .small m, lt-ltb word (2 ^ 62) m) (record { is = (ap (number word) e, l, u) })) (le-or-lt (2 ^ 62) word)
+
 module _ {w : Read} {cells : List ℕ} {at : ℕ} {g : Got} (m : Met w cells at g) where
   told : {k : Got} → g ≡ k → MetBy w cells at k
   told e = subst (MetBy w cells at) e (m .is)
 
-  pub stood-number : {n next : ℕ} → g ≡ Below n next → Stood (frontOf w) cells at (Number n next)
-  unfolding frontOf
-  stood-number {n} e = let (q, r, s, l, u) = told e in record { is = (rw (r, lt-ltb n (2 ^ 62) s), l, u) }
-
-  pub stood-large : {next : ℕ} → g ≡ Beyond next → Stood (frontOf w) cells at (Not NumberTooLarge)
-  unfolding frontOf
-  stood-large e = let (n, q, r, s, u) = told e in record { is = rw (r, le-ltb n (2 ^ 62) s) }
+  pub stood-item : {word next : ℕ} → g ≡ Case word next → {r : Item} → r ≡ itemOf word next → Stood (frontOf w) cells at r
+  stood-item e f = let (n, q, x, s, l, u) = told e in rw (x, f) (item-of n q refl s l u)
 
   pub stood-wrong : {r : Refusal} → g ≡ Wrong r → Stood (frontOf w) cells at (Not r)
   unfolding frontOf
   stood-wrong e = record { is = rw (told e) }
+
+  -- ---- a whole case: the walk, then cells left over, then 16
+  pub whole-more : {word next : ℕ} → g ≡ Case word next → next < length cells → Stood (wholeOf w) cells at (Not NotACase)
+  unfolding wholeOf
+  whole-more {word} {next} e m = let (n, q, x, s, l, u) = told e in record { is = rw (x, drop-cons cells next 0 m) }
+
+  pub whole-item : {word next : ℕ} → g ≡ Case word next → length cells ≤ next → {r : Item} → r ≡ itemOf word next → Stood (wholeOf w) cells at r
+  unfolding wholeOf
+  whole-item {word} {next} e m f =
+      let (n, q, x, s, l, u) = told e in
+      let none : drop next cells ≡ [] = drop-of-length-le cells {i = next} m in
+      rw (x, none, f) (item-of n q (sym none) s l u)
+
+  pub whole-wrong : {r : Refusal} → g ≡ Wrong r → Stood (wholeOf w) cells at (Not r)
+  unfolding wholeOf
+  whole-wrong e = record { is = rw (told e) }

@@ -3,7 +3,8 @@
 --   roomFor    "a longer buffer to write into counts as that long for one case"
 --   caseCells  the cells that the walk from a node meets
 --   fitted     the count of the case's cells, or the refusal
---   FitOver    the same, and what becomes of a buffer
+--   FitOver    the same, and what the second pass makes of a buffer
+--   Placed     the same, and what a call on one number makes of it
 -- Assumes nothing.
 use mathlib.Core.Path.{_≡_}
 use mathlib.Core.Bool.{Bool, false, _&&_}
@@ -51,3 +52,12 @@ pub record FitOver (g : ℕ → Rule) (i n : ℕ) (old last : List ℕ) (r : Fit
   pub long : length last ≡ length old
   pub holds : (k : ℕ) → r ≡ Cells k → last ≡ over (caseCells g i n) old
   pub kept : asked (g i .size) n ≡ false → last ≡ old
+
+-- "no lent word changes"; "Success writes the case's cells only, the rest of the buffer keeps its bytes"
+abbrev pub places : Fit → List ℕ → List ℕ → List ℕ
+places (Cells k) cs old = over cs old
+places (Not r) cs old = old
+
+pub record Placed (g : ℕ → Rule) (i n : ℕ) (old last : List ℕ) (r : Fit) : Type 0 where
+  pub is : r ≡ fitted g i n (length old)
+  pub holds : last ≡ places r (caseCells g i n) old

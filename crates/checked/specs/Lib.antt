@@ -4,3 +4,4 @@ pub mod Fits
 pub mod Kept
 pub mod Met
 pub mod Item
+pub mod Opening

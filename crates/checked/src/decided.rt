@@ -12,7 +12,7 @@ use grammar::refusal::Refusal;
 use laying::tally::tally;
 
 // "12, then the walk with the room left"
-pub fn decided(plan: &[u64], pool: &[u64], start: usize, number: u64, room: usize) -> Fit
+pub fn decided(pool: &[u64], plan: &[u64], start: usize, number: u64, room: usize) -> Fit
     requires { ⌜ Reading (now plan) (now pool) start ⌝ }
     ensures { λ r. ⌜ r ≡ fitted (ruleIn (now (plan .entry)) (now (pool .entry))) start number room ⌝ }
 {

@@ -55,7 +55,7 @@ pub fn fit_of(most: usize, rest: usize) -> Fit
 }
 
 // It decides as the first pass does by the buffer's length, and writes what fits.
-pub fn fits(plan: &[u64], pool: &[u64], start: usize, number: u64, out: &mut [u64]) -> Fit
+pub fn fits(pool: &[u64], plan: &[u64], start: usize, number: u64, out: &mut [u64]) -> Fit
     requires { ⌜ Reading (now plan) (now pool) start ⌝ }
     ensures { λ r. ⌜ FitOver (ruleIn (now (plan .entry)) (now (pool .entry))) start number (now (out .entry)) (now (out .exit)) r ⌝ }
 {

@@ -8,7 +8,7 @@ ghost use Rattle.walk.specs.Room.{most};
 ghost use Rattle.walk.specs.Run.{run};
 ghost use Rattle.taking.specs.Took.{whyOf};
 ghost use Rattle.walk.specs.Plan.{Reading};
-ghost use Rattle.checked.specs.Item.{front, Stood};
+ghost use Rattle.checked.specs.Item.{front, whole, itemOf, Stood};
 ghost use Rattle.checked.specs.Met.{Met};
 use super::fits::DEPTH;
 use super::fits::MOST_CELLS;
@@ -20,10 +20,9 @@ use taking::own::DEEP;
 use taking::own::UNFIT;
 use taking::take::take;
 
-// A number below 2^62 and the place after its cells; a larger one, and that place; why nothing is read.
-pub enum Got {
-    Below(u64, usize),
-    Beyond(usize),
+// The word that the walk read and the place after its cells, or why nothing is read.
+enum Got {
+    Case(u64, usize),
     Wrong(Refusal),
 }
 
@@ -50,7 +49,7 @@ fn why(word: u64, full: bool) -> Refusal
 }
 
 // The case that starts at a place: "The limit of 65,536 counts from the item's first cell".
-pub fn got_at(plan: &[u64], pool: &[u64], start: usize, cells: &[u64], at: usize) -> Got
+fn got_at(pool: &[u64], plan: &[u64], start: usize, cells: &[u64], at: usize) -> Got
     requires { ⌜ Reading (now plan) (now pool) start × (at ≤ length (now cells)) ⌝ }
     ensures { λ r. ⌜ Met (run (ruleIn (now (plan .entry)) (now (pool .entry))) depth 0 start most (drop at (now (cells .entry)))) (now (cells .entry)) at r ⌝ }
 {
@@ -59,22 +58,45 @@ pub fn got_at(plan: &[u64], pool: &[u64], start: usize, cells: &[u64], at: usize
     let row = &cells[at..at + few];
     let mut used: usize = 0;
     let word = take(&plan, &pool, &row, start, DEPTH, 0, &mut used);
-    if word < LARGEST {
-        return Got::Below(word, at + used);
-    }
     if word <= BIG {
-        return Got::Beyond(at + used);
+        return Got::Case(word, at + used);
     }
     Got::Wrong(why(word, MOST_CELLS <= left))
 }
 
-pub fn item_at(plan: &[u64], pool: &[u64], start: usize, cells: &[u64], at: usize) -> Item
+// "then 16": a number that is not below 2^62.
+fn numbered(word: u64, next: usize) -> Item
+    ensures { λ r. ⌜ r ≡ itemOf word next ⌝ }
+{
+    if word < LARGEST {
+        return Item::Number(word, next);
+    }
+    Item::Not(Refusal::NumberTooLarge)
+}
+
+// The case at a place, whatever stands behind it.
+pub fn item_at(pool: &[u64], plan: &[u64], start: usize, cells: &[u64], at: usize) -> Item
     requires { ⌜ Reading (now plan) (now pool) start × (at ≤ length (now cells)) ⌝ }
     ensures { λ r. ⌜ Stood (front (ruleIn (now (plan .entry)) (now (pool .entry))) start (drop at (now (cells .entry)))) (now (cells .entry)) at r ⌝ }
 {
-    match got_at(plan, pool, start, cells, at) {
-        Got::Below(n, next) => Item::Number(n, next),
-        Got::Beyond(_) => Item::Not(Refusal::NumberTooLarge),
+    match got_at(pool, plan, start, cells, at) {
+        Got::Case(word, next) => numbered(word, next),
+        Got::Wrong(r) => Item::Not(r),
+    }
+}
+
+// All cells are one case: "Then cells left over (15, whole-case reading only), then 16."
+pub fn read_case(pool: &[u64], plan: &[u64], start: usize, cells: &[u64]) -> Item
+    requires { ⌜ Reading (now plan) (now pool) start ⌝ }
+    ensures { λ r. ⌜ Stood (whole (ruleIn (now (plan .entry)) (now (pool .entry))) start (now (cells .entry))) (now (cells .entry)) 0 r ⌝ }
+{
+    match got_at(pool, plan, start, cells, 0) {
+        Got::Case(word, next) => {
+            if next < cells.len() {
+                return Item::Not(Refusal::NotACase);
+            }
+            numbered(word, next)
+        }
         Got::Wrong(r) => Item::Not(r),
     }
 }

@@ -4,7 +4,7 @@ use mathlib.Core.Path.{refl}
 use Prim.Native.Nat.{_+_, _-_}
 use borrow.Author.Needs.{needs}
 use native.Mathlib.Omega.{arith}
-use Rattle.checked.proofs.Standing.{row-few, within, met-below, met-beyond, met-wrong}
+use Rattle.checked.proofs.Standing.{row-few, within, met-case, met-wrong}
 use Rattle.checked.proofs.item.got_at.Statement.{statement}
 use Rattle.checked.proofs.item.got_at.Tie as tie
 
@@ -12,77 +12,15 @@ pub got-at-spec : {M : Type 1} → statement M
 got-at-spec =
     tie.close
     (tie.spec
-    (λ c. omega (arith, c .before .before .before .pre .1))
+    (λ c. let at-pre = c .before .before .before in omega (arith, at-pre .pre .1))
     (λ c κs. search needs)
-    (λ c. omega (arith, c .before .before .before .before .pre .1, c .room-for .ensures))
-    (λ c. omega (arith, c .before .before .before .before .pre .1, c .room-for .ensures))
-    (λ c. omega (arith, c .before .before .before .before .pre .1, c .room-for .ensures))
-    (λ c. omega (arith, c .before .before .before .before .pre .1, c .room-for .ensures))
-    (λ c. omega (arith, c .before .before .before .before .pre .1, c .room-for .ensures))
-    (λ c κs. (
-      c .before .before .before .before .before .before .before .before .before .pre .0,
-      (
-        omega arith,
-        omega arith,
-        omega arith,
-        row-few
-            (c .before .before .before .before .before .before .before .before .before .args .cells .now)
-            (c .before .before .before .before .before .before .before .before .before .args .at)
-            (c .before .before .before .before .before .before .before .before .before .args .at + c .before .before .before .before .before .room-for .result -
-            c .before .before .before .before .before .before .before .before .before .args .at) (omega (
-              arith,
-              c .before .before .before .before .before .room-for .ensures,
-            )),
-      ),
-    ))
-    (λ c. omega (
-      arith,
-      within (c .before .before .before .before .before .before .before .before .before .before .before .pre .0)
-          (c .before .before .before .before .before .before .before .before .before .before .before .args .cells .now)
-          (c .before .before .before .before .before .before .before .before .before .before .before .args .at)
-          (c .before .before .before .before .before .before .before .before .before .before .before .pre .1)
-          (c .before .before .before .before .before .before .before .before .before .before .before .args .at +
-          c .before .before .before .before .before .before .before .room-for .result -
-          c .before .before .before .before .before .before .before .before .before .before .before .args .at)
-          (omega (arith, c .before .before .before .before .before .before .before .room-for .ensures)) refl (omega arith) (c .before .take .ensures)
-          (omega (arith, c .if1 .taken)),
-    ))
-    (λ c. met-below (c .before .before .before .before .before .before .before .before .before .before .before .pre .0)
-    (c .before .before .before .before .before .before .before .before .before .before .before .args .cells .now)
-    (c .before .before .before .before .before .before .before .before .before .before .before .args .at)
-    (c .before .before .before .before .before .before .before .before .before .before .before .pre .1)
-    (c .before .before .before .before .before .before .before .before .before .before .before .args .at +
-    c .before .before .before .before .before .before .before .room-for .result -
-    c .before .before .before .before .before .before .before .before .before .before .before .args .at)
-    (omega (arith, c .before .before .before .before .before .before .before .room-for .ensures)) refl (omega arith) (c .before .take .ensures) (c .if1 .taken))
-    (λ c. omega (
-      arith,
-      within (c .before .before .before .before .before .before .before .before .before .before .before .before .pre .0)
-          (c .before .before .before .before .before .before .before .before .before .before .before .before .args .cells .now)
-          (c .before .before .before .before .before .before .before .before .before .before .before .before .args .at)
-          (c .before .before .before .before .before .before .before .before .before .before .before .before .pre .1)
-          (c .before .before .before .before .before .before .before .before .before .before .before .before .args .at +
-          c .before .before .before .before .before .before .before .before .room-for .result -
-          c .before .before .before .before .before .before .before .before .before .before .before .before .args .at)
-          (omega (arith, c .before .before .before .before .before .before .before .before .room-for .ensures)) refl (omega arith)
-          (c .before .before .take .ensures) (c .if2 .taken),
-    ))
-    (λ c. met-beyond (c .before .before .before .before .before .before .before .before .before .before .before .before .pre .0)
-    (c .before .before .before .before .before .before .before .before .before .before .before .before .args .cells .now)
-    (c .before .before .before .before .before .before .before .before .before .before .before .before .args .at)
-    (c .before .before .before .before .before .before .before .before .before .before .before .before .pre .1)
-    (c .before .before .before .before .before .before .before .before .before .before .before .before .args .at +
-    c .before .before .before .before .before .before .before .before .room-for .result -
-    c .before .before .before .before .before .before .before .before .before .before .before .before .args .at)
-    (omega (arith, c .before .before .before .before .before .before .before .before .room-for .ensures)) refl (omega arith)
-    (c .before .before .take .ensures) (c .before .if1 .left) (c .if2 .taken))
+    (λ c. let at-pre = c .before .before .before .before in omega (arith, at-pre .pre .1, c .room-for .ensures))
+    (λ c. let at-pre = c .before .before .before .before in omega (arith, at-pre .pre .1, c .room-for .ensures))
+    (λ c. let at-pre = c .before .before .before .before in omega (arith, at-pre .pre .1, c .room-for .ensures))
+    (λ c. let at-pre = c .before .before .before .before in omega (arith, at-pre .pre .1, c .room-for .ensures))
+    (λ c. let at-pre = c .before .before .before .before in omega (arith, at-pre .pre .1, c .room-for .ensures))
+    (λ c κs. let at-room-for = c .before .before .before .before .before in let at-pre = at-room-for .before .before .before .before in (at-pre .pre .0, (omega arith, omega arith, omega arith, row-few (at-pre .args .cells .now) (at-pre .args .at) (at-pre .args .at + at-room-for .room-for .result - at-pre .args .at) (omega (arith, at-room-for .room-for .ensures)))))
+    (λ c. let at-room-for = c .before .before .before .before .before .before .before in let at-pre = at-room-for .before .before .before .before in omega (arith, within (at-pre .pre .0) (at-pre .args .cells .now) (at-pre .args .at) (at-pre .pre .1) (at-pre .args .at + at-room-for .room-for .result - at-pre .args .at) (omega (arith, at-room-for .room-for .ensures)) refl (omega arith) (c .before .take .ensures) (c .if1 .taken)))
+    (λ c. let at-room-for = c .before .before .before .before .before .before .before in let at-pre = at-room-for .before .before .before .before in met-case (at-pre .pre .0) (at-pre .args .cells .now) (at-pre .args .at) (at-pre .pre .1) (at-pre .args .at + at-room-for .room-for .result - at-pre .args .at) (omega (arith, at-room-for .room-for .ensures)) refl (omega arith) (c .before .take .ensures) (c .if1 .taken))
     (λ c κs. search needs)
-    (λ c. met-wrong (c .before .before .before .before .before .before .before .before .before .before .before .before .before .pre .0)
-    (c .before .before .before .before .before .before .before .before .before .before .before .before .before .args .cells .now)
-    (c .before .before .before .before .before .before .before .before .before .before .before .before .before .args .at)
-    (c .before .before .before .before .before .before .before .before .before .before .before .before .before .pre .1)
-    (c .before .before .before .before .before .before .before .before .before .before .before .before .before .args .at +
-    c .before .before .before .before .before .before .before .before .before .room-for .result -
-    c .before .before .before .before .before .before .before .before .before .before .before .before .before .args .at)
-    (omega (arith, c .before .before .before .before .before .before .before .before .before .room-for .ensures)) refl (omega arith)
-    (c .before .before .before .take .ensures) (c .before .if2 .left) (c .why .ensures)))
+    (λ c. let at-take = c .before .before in let at-room-for = at-take .before .before .before .before .before .before in let at-pre = at-room-for .before .before .before .before in met-wrong (at-pre .pre .0) (at-pre .args .cells .now) (at-pre .args .at) (at-pre .pre .1) (at-pre .args .at + at-room-for .room-for .result - at-pre .args .at) (omega (arith, at-room-for .room-for .ensures)) refl (omega arith) (at-take .take .ensures) (c .before .if1 .left) (c .why .ensures)))

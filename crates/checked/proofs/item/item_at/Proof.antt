@@ -1,7 +1,7 @@
 -- `checked::item::item_at` is the case at a place: the walk, then 16.
 -- Assumes nothing.
 use borrow.Author.Needs.{needs}
-use Rattle.checked.proofs.Standing.{stood-number, stood-large, stood-wrong}
+use Rattle.checked.proofs.Standing.{stood-item, stood-wrong}
 use Rattle.checked.proofs.item.item_at.Statement.{statement}
 use Rattle.checked.proofs.item.item_at.Tie as tie
 
@@ -11,8 +11,7 @@ item-at-spec =
     (tie.spec
     (λ c κs. search needs)
     (λ c. search needs)
+    (λ c κs. search needs)
     (λ c. search needs)
-    (λ c. search needs)
-    (λ c. stood-number (c .before .before .before .got-at .ensures) (c .before .n .given .1))
-    (λ c. stood-large (c .before .before .got-at .ensures) (c .enum-told .given .1))
-    (λ c. stood-wrong (c .before .before .before .got-at .ensures) (c .before .r .given .1)))
+    (λ c. let at-word = c .before .before in let at-got-at = at-word .before .before in stood-item (at-got-at .got-at .ensures) (at-word .word .given .1) (c .numbered .ensures))
+    (λ c. let at-got-at = c .before .before .before in stood-wrong (at-got-at .got-at .ensures) (c .before .r .given .1)))

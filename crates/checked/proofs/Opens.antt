@@ -1,0 +1,35 @@
+-- What the code of `open` has found, in the words of its promise.
+--   opens-refused   the table is refused
+--   opens-11        the start is not in the table
+--   opens-ready     the plan may be walked from the start
+-- Assumes nothing.
+use mathlib.Core.Path.{_≡_}
+use mathlib.Core.List.{List}
+use Prim.Native.Nat.{ℕ, _≤_, _<_}
+use borrow.Author.Tests.{lt-ltb, le-ltb}
+use Rattle.grammar.specs.Table.{nodes}
+use Rattle.grammar.specs.declared.refusal.Refusal.{Refusal}
+use Rattle.grammar.specs.declared.refusal.Refusal.the-variants.{NoSuchStart}
+use Rattle.grammar.specs.declared.refusal.Verdict.{Verdict}
+use Rattle.grammar.specs.declared.refusal.Verdict.the-variants.{Accepted, Refused}
+use Rattle.checked.specs.Prepared.{Prepared}
+use Rattle.checked.specs.Opening.{opening, Opens}
+use Rattle.checked.proofs.Preparing.{refused-not}
+use Rattle.checked.proofs.Walking.{same-rules, stands-at}
+
+module _ {t p plan : List ℕ} {v : Verdict} (h : Prepared t p plan v) (i : ℕ) where
+  pub opens-refused : {r : Refusal} {k : ℕ} → v ≡ Refused r k → Opens t p plan i (Refused r k)
+  unfolding opening
+  opens-refused e = record { is = rw (← h .is, e); ready = λ a. absurd (refused-not a) }
+
+  module _ (e : v ≡ Accepted) where
+    pub opens-11 : nodes t ≤ i → Opens t p plan i (Refused NoSuchStart 0)
+    unfolding opening
+    opens-11 l = record { is = rw (← h .is, e, le-ltb i (nodes t) l); ready = λ a. absurd (refused-not a) }
+
+    pub opens-ready : i < nodes t → Opens t p plan i Accepted
+    unfolding opening
+    opens-ready l = record {
+      is = rw (← h .is, e, lt-ltb i (nodes t) l);
+      ready = λ a. record { reads = stands-at (h .ready e) l; rules = same-rules (h .ready e) };
+    }

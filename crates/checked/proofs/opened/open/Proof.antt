@@ -1,0 +1,20 @@
+-- `checked::opened::open` checks the table, and then the start.
+-- Assumes nothing.
+use borrow.Author.Needs.{needs}
+use Rattle.checked.proofs.Opens.{opens-refused, opens-11, opens-ready}
+use Rattle.checked.proofs.opened.open.Statement.{statement}
+use Rattle.checked.proofs.opened.open.Tie as tie
+
+pub open-spec : {M : Type 1} → statement M
+open-spec =
+    tie.close
+    (tie.spec
+    (λ c κs. search needs)
+    (λ c. search needs)
+    (λ c. search needs)
+    (λ c. search needs)
+    (λ c. let at-prepare = c .before .before .before .before .before in opens-11 (at-prepare .prepare .ensures) _ (c .before .enum-told .given .1) (c .if1 .taken))
+    (λ c. search needs)
+    (λ c. let at-prepare = c .before .before .before .before .before in opens-refused (at-prepare .prepare .ensures) _ (c .before .v .given .1))
+    (λ c. search needs)
+    (λ c. let at-prepare = c .before .before .before .before .before in opens-ready (at-prepare .prepare .ensures) _ (c .before .enum-told .given .1) (c .if1 .left)))
