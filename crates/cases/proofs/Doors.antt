@@ -17,34 +17,35 @@ use Rattle.grammar.specs.declared.refusal.Refusal.the-variants.{NotACase, Numbe
 use Rattle.grammar.specs.declared.refusal.Verdict.the-variants.{Accepted}
 use Rattle.grammar.specs.Sizes.{rulesOf}
 use Rattle.walk.specs.Walk.{cell, walk, cells, depth}
-use Rattle.walk.specs.Room.{most}
-use Rattle.walk.specs.Run.{Read, read, wrong, run}
+use Rattle.walk.specs.Run.{Read, read, wrong}
 use Rattle.checked.specs.Fits.{Asked, roomFor, fitted}
 use Rattle.checked.specs.declared.fits.Fit.{Fit}
 use Rattle.checked.specs.declared.fits.Fit.the-variants.{Cells, Not}
 use Rattle.checked.proofs.Fitted.{fitted-is, fitted-cells}
-use Rattle.cases.specs.Read.{found, finds, reads}
-use Rattle.cases.specs.Write.{wrote, walks, writes}
+use Rattle.checked.specs.Item.{number, refused, frontOf, wholeOf, whole}
+use Rattle.checked.proofs.Opens.{opens}
+use Rattle.cases.specs.Read.{found, reads}
+use Rattle.cases.specs.Write.{wrote, writes}
 use Rattle.cases.specs.declared.reading.Found.the-variants.{Number, Refused as Not-found}
 use Rattle.cases.specs.declared.writing.Written.the-variants.{Done}
 
 -- ---- an answer with a number, an answer with a count
-pub found-number : (w : Read) (n : ℕ) → found w ≡ Number n → (q : ℕ) × (w ≡ read n q []) × (n < 2 ^ 62)
-unfolding found
+pub found-number : (w : Read) (n : ℕ) → found (wholeOf w) ≡ Number n → (q : ℕ) × (w ≡ read n q []) × (n < 2 ^ 62)
+unfolding wholeOf frontOf
 found-number (read m q []) n e = by (ltb m (2 ^ 62)) refl e
   where
-    by : (b : Bool) → ltb m (2 ^ 62) ≡ b → pick b (Number m) (Not-found NumberTooLarge 0) ≡ Number n → (q' : ℕ) × (read m q [] ≡ read n q' []) × (n < 2 ^ 62)
+    by : (b : Bool) → ltb m (2 ^ 62) ≡ b → found (pick b (number m []) (refused NumberTooLarge)) ≡ Number n → (q' : ℕ) × (read m q [] ≡ read n q' []) × (n < 2 ^ 62)
     by true u v = let s : m ≡ n = cc in (q, ap (λ (x : ℕ). read x q []) s, omega (arith, ltb-true m (2 ^ 62) u))
     by false u v = let z : _≡_ {A = ℕ} 0 1 = cc in absurd (omega arith)
 found-number (read m q (c ∷ cs)) n e = let z : _≡_ {A = ℕ} 0 1 = cc in absurd (omega arith)
 found-number (wrong r) n e = let z : _≡_ {A = ℕ} 0 1 = cc in absurd (omega arith)
 
-pub number-found : (w : Read) (n q : ℕ) → w ≡ read n q [] → n < 2 ^ 62 → found w ≡ Number n
-unfolding found
+pub number-found : (w : Read) (n q : ℕ) → w ≡ read n q [] → n < 2 ^ 62 → found (wholeOf w) ≡ Number n
+unfolding wholeOf frontOf
 number-found w n q e s = rw (e, lt-ltb n (2 ^ 62) s)
 
-pub left-over : (w : Read) {n q c : ℕ} {cs : List ℕ} → w ≡ read n q (c ∷ cs) → found w ≡ Not-found NotACase 0
-unfolding found
+pub left-over : (w : Read) {n q c : ℕ} {cs : List ℕ} → w ≡ read n q (c ∷ cs) → found (wholeOf w) ≡ Not-found NotACase 0
+unfolding wholeOf
 left-over w e = rw e
 
 pub wrote-done : (f : Fit) (k : ℕ) → wrote f ≡ Done k → f ≡ Cells k
@@ -52,13 +53,13 @@ wrote-done (Cells m) k e = let s : m ≡ k = cc in ap Cells s
 wrote-done (Not r) k e = let z : _≡_ {A = ℕ} 0 1 = cc in absurd (omega arith)
 
 module _ (t p : List ℕ) (a : verdict t p ≡ Accepted) (i : ℕ) (l : i < nodes t) where
-  pub reads-is : (cs : List ℕ) → reads t p i cs ≡ found (run (rulesOf t p) depth 0 i most cs)
-  unfolding reads finds
-  reads-is cs = rw (a, lt-ltb i (nodes t) l)
+  pub reads-is : (cs : List ℕ) → reads t p i cs ≡ found (whole (rulesOf t p) i cs)
+  unfolding reads
+  reads-is cs = rw (opens t p a i l)
 
   pub writes-by : (n room : ℕ) → writes t p i n room ≡ wrote (fitted (rulesOf t p) i n room)
-  unfolding writes walks
-  writes-by n room = rw (a, lt-ltb i (nodes t) l)
+  unfolding writes
+  writes-by n room = rw (opens t p a i l)
 
   -- the cells are few enough, so `write` is done
   pub writes-is : (n room : ℕ) (cs : List ℕ) → Asked (rulesOf t p i .size) n → walk (rulesOf t p) depth 0 i n ≡ map cell cs → length cs ≤ roomFor room

@@ -1,13 +1,15 @@
--- What the code of `open` has found, in the words of its promise.
+-- What the code of `begin` has found, in the words of its promise.
 --   opens-refused   the table is refused
 --   opens-11        the start is not in the table
 --   opens-ready     the plan may be walked from the start
+--   opens           where it accepts
 -- Assumes nothing.
 use mathlib.Core.Path.{_≡_}
 use mathlib.Core.List.{List}
 use Prim.Native.Nat.{ℕ, _≤_, _<_}
 use borrow.Author.Tests.{lt-ltb, le-ltb}
 use Rattle.grammar.specs.Table.{nodes}
+use Rattle.grammar.specs.Verdict.{verdict}
 use Rattle.grammar.specs.declared.refusal.Refusal.{Refusal}
 use Rattle.grammar.specs.declared.refusal.Refusal.the-variants.{NoSuchStart}
 use Rattle.grammar.specs.declared.refusal.Verdict.{Verdict}
@@ -33,3 +35,8 @@ module _ {t p plan : List ℕ} {v : Verdict} (h : Prepared t p plan v) (i : ℕ)
       is = rw (← h .is, e, lt-ltb i (nodes t) l);
       ready = λ a. record { reads = stands-at (h .ready e) l; rules = same-rules (h .ready e) };
     }
+
+-- an accepted table and a start in it
+pub opens : (t p : List ℕ) → verdict t p ≡ Accepted → (i : ℕ) → i < nodes t → opening t p i ≡ Accepted
+unfolding opening
+opens t p a i l = rw (a, lt-ltb i (nodes t) l)

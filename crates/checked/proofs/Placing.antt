@@ -1,8 +1,9 @@
 -- What the code of `write_case` has found, in the words of its promise.
 --   settled-cells, settled-sure   what is settled before the buffer is written: by the first pass, or since every case fits
 --   placed, placed-not            by what the second pass made of the buffer, or by the first pass's refusal
+--   placed-long                   a buffer keeps its length
 -- Assumes nothing.
-use mathlib.Core.Path.{_≡_, refl, sym, subst, _∙_}
+use mathlib.Core.Path.{_≡_, refl, sym, subst, ap, _∙_}
 use mathlib.Core.Bool.{Bool, true, false}
 use mathlib.Core.List.{List}
 use Prim.Native.Nat.{ℕ}
@@ -55,3 +56,7 @@ module _ {g : ℕ → Rule} {i n : ℕ} {old : List ℕ} where
 
   pub placed-not : {f : Fit} → f ≡ fitted g i n (length old) → {r : Refusal} → f ≡ Not r → Placed g i n old old (Not r)
   placed-not e q = record { is = sym q ∙ e; holds = refl }
+
+  pub placed-long : {last : List ℕ} {f : Fit} → Placed g i n old last f → length last ≡ length old
+  placed-long {f = Cells k} w = over-long (caseCells g i n) old (w .holds)
+  placed-long {f = Not r} w = ap length (w .holds)

@@ -1,6 +1,7 @@
 -- What the code of `got_at`, `item_at` and `read_case` has found, in the words of their promises.
 --   row-few, within                    the cells that are lent to the walk, and the place after those that it read
 --   met-case, met-wrong                by the word that the walk handed back
+--   stood                              by the answer
 --   item-small, item-large             by 16
 --   stood-item, stood-wrong            by what was met, and 16
 --   whole-more, whole-item, whole-wrong   of a whole case
@@ -27,7 +28,7 @@ use Rattle.walk.proofs.Only.{only}
 use Rattle.walk.proofs.Ends.{walk-some}
 use Rattle.checked.specs.Fits.{roomFor}
 use Rattle.checked.specs.Met.{Worded, MetBy, Met}
-use Rattle.checked.specs.Item.{number, frontOf, wholeOf, itemOf, Stood}
+use Rattle.checked.specs.Item.{Front, number, frontOf, wholeOf, itemOf, StoodBy, Stood}
 use Rattle.checked.specs.declared.item.Got.{Got}
 use Rattle.checked.specs.declared.item.Got.the-variants.{Case, Wrong}
 use Rattle.checked.specs.declared.item.Item.{Item}
@@ -89,6 +90,10 @@ module _ {plan p : List ℕ} {i : ℕ} (h : Reading plan p i) where
         by (exact s e) = absurd (omega (arith, s))
         by (large s m k e) = absurd (omega arith)
         by (stops s e) = e ∙ rw (length-drop at cells, g)
+
+-- ---- what stands at a place, by the answer's constructor
+pub stood : {f : Front} {cells : List ℕ} {at : ℕ} {r k : Item} → Stood f cells at r → r ≡ k → StoodBy f cells at k
+stood {f} {cells} {at} w e = subst (StoodBy f cells at) e (w .is)
 
 -- ---- the walk, then 16
 pub item-small : (word next : ℕ) → word < 2 ^ 62 → Number word next ≡ itemOf word next

@@ -6,7 +6,7 @@ use grammar::refusal::Refusal;
 use grammar::refusal::Verdict;
 
 // "Each call checks the table first, then 11": it leaves the plan, or the refusal and its node.
-pub fn open(table: &[u64], pool: &[u64], plan: &mut [u64], start: usize) -> Verdict
+pub fn begin(table: &[u64], pool: &[u64], plan: &mut [u64], start: usize) -> Verdict
     requires { ⌜ Blank (now table) (now plan) ⌝ }
     ensures { λ r. ⌜ Opens (now (table .entry)) (now (pool .entry)) (now (plan .exit)) start r ⌝ }
 {

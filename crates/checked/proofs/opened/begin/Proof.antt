@@ -1,12 +1,12 @@
--- `checked::opened::open` checks the table, and then the start.
+-- `checked::opened::begin` checks the table, and then the start.
 -- Assumes nothing.
 use borrow.Author.Needs.{needs}
 use Rattle.checked.proofs.Opens.{opens-refused, opens-11, opens-ready}
-use Rattle.checked.proofs.opened.open.Statement.{statement}
-use Rattle.checked.proofs.opened.open.Tie as tie
+use Rattle.checked.proofs.opened.begin.Statement.{statement}
+use Rattle.checked.proofs.opened.begin.Tie as tie
 
-pub open-spec : {M : Type 1} → statement M
-open-spec =
+pub begin-spec : {M : Type 1} → statement M
+begin-spec =
     tie.close
     (tie.spec
     (λ c κs. search needs)
