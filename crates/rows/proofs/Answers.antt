@@ -9,7 +9,6 @@ use mathlib.Core.List.{List, [], _++_, append-nil}
 use Prim.Native.Nat.{ℕ, suc, _≤_, _<_}
 use native.Mathlib.Omega.{arith}
 use lib.ListN.{length, take}
-use borrow.Author.Tests.{lt-ltb}
 use Rattle.grammar.specs.Table.{nodes}
 use Rattle.grammar.specs.Verdict.{verdict}
 use Rattle.grammar.specs.declared.refusal.Refusal.{Refusal}
@@ -18,9 +17,10 @@ use Rattle.grammar.specs.Rule.{Rule}
 use Rattle.grammar.specs.Sizes.{rulesOf}
 use Rattle.walk.specs.Filled.{over}
 use Rattle.walk.proofs.Fills.{over-front}
+use Rattle.checked.proofs.Opens.{opens}
 use Rattle.rows.specs.Row.{leaves}
-use Rattle.rows.specs.WriteRow.{inTurn, rowOf, writesRowPlanned, writesRow, WroteRow}
-use Rattle.rows.specs.ReadRow.{Gathered, all, stopped, gather, answered, gotten, readsRowPlanned, readsRow, GotRow}
+use Rattle.rows.specs.WriteRow.{inTurn, rowOf, writesRow, WroteRow}
+use Rattle.rows.specs.ReadRow.{Gathered, all, stopped, gather, answered, gotten, readsRow, GotRow}
 use Rattle.rows.specs.Reader.{next, strideOf}
 use Rattle.rows.specs.Cut.{Cut, joined, handOut, asks}
 use Rattle.rows.specs.declared.answer.Row.{Row}
@@ -56,12 +56,12 @@ module _ (t p : List ℕ) (a : verdict t p ≡ Accepted) (i : ℕ) (l : i < node
   g = rulesOf t p
 
   writes-row-is : (room : ℕ) (ns : List ℕ) → writesRow t p i room ns ≡ inTurn g i room ns
-  unfolding writesRow writesRowPlanned
-  writes-row-is room ns = rw (a, lt-ltb i (nodes t) l)
+  unfolding writesRow
+  writes-row-is room ns = rw (opens t p a i l)
 
   reads-row-is : (room : ℕ) (cs : List ℕ) → readsRow t p i room cs ≡ answered (length cs) (gather g i room cs)
-  unfolding readsRow readsRowPlanned
-  reads-row-is room cs = rw (a, lt-ltb i (nodes t) l)
+  unfolding readsRow
+  reads-row-is room cs = rw (opens t p a i l)
 
   -- ---- writing
   pub wrote-cut : {ns : List ℕ} {css : List (List ℕ)} → Cut g i ns css → {old last : List ℕ} {w : Row} → length (joined css) ≤ length old

@@ -24,11 +24,11 @@ use Rattle.grammar.specs.declared.refusal.Refusal.the-variants.{NumberTooLarge}
 use Rattle.grammar.specs.declared.refusal.Verdict.the-variants.{Accepted}
 use Rattle.grammar.specs.Rule.{Rule}
 use Rattle.grammar.specs.Sizes.{sizeAt, sizes, rulesOf}
-use Rattle.walk.specs.Walk.{walk, cells, depth}
+use Rattle.walk.specs.Walk.{cells, depth}
 use Rattle.walk.specs.Room.{Case, most}
 use Rattle.walk.specs.Run.{Read, read, wrong, run}
 use Rattle.walk.proofs.Only.{only}
-use Rattle.checked.specs.Fits.{Asked, fitted}
+use Rattle.checked.specs.Fits.{caseCells, Asked, fitted}
 use Rattle.checked.specs.Item.{Front, number, refused, frontOf, front}
 use Rattle.checked.specs.declared.fits.Fit.the-variants.{Cells}
 use Rattle.checked.proofs.Fitted.{cells-map, fitted-is, fitted-cells}
@@ -37,14 +37,15 @@ use Rattle.cases.proofs.BothSides.{case-some, reads-on}
 use Rattle.rows.specs.WriteRow.{onward, inTurn, rowOf}
 use Rattle.rows.specs.ReadRow.{Gathered, all, stopped, after, gather, full}
 use Rattle.rows.specs.ReadRow as Rows-read
-use Rattle.rows.specs.Reader.{next, nextPlanned, nextOf, afterOf, strideOf}
+use Rattle.rows.specs.Reader.{next, nextOf, afterOf, strideOf}
 use Rattle.rows.specs.Cut.{Cut, none, item, joined, handOut, asks}
 use Rattle.rows.specs.declared.answer.Row.the-variants.{Done}
 use Rattle.rows.specs.declared.reader.Next.{Next}
 use Rattle.rows.specs.declared.reader.Next.the-variants.{Item, Refused}
 use Rattle.rows.proofs.Turns.{onward-done}
 use Rattle.rows.proofs.Gathering.{gather-none, gather-full, gather-more}
-use Rattle.rows.proofs.reader.Laws.{next-some}
+use Rattle.checked.proofs.Opens.{opens}
+use Rattle.rows.proofs.Calls.{next-some}
 
 -- ---- one case for a number
 pub same-case : {g : ℕ → Rule} {i n : ℕ} {cs ds : List ℕ} → Case g i n cs → Case g i n ds → cs ≡ ds
@@ -130,7 +131,7 @@ module _ (t p : List ℕ) (a : verdict t p ≡ Accepted) (i : ℕ) (l : i < node
       let (x, y) = turns-cut (room - length cs) k (omega arith) in
       let w : fitted g i n room ≡ Cells (length cs) = fitted-is g i n room cs q (c .shows) (omega (arith, c .few)) in
       let one : 1 + length ns ≡ suc (length ns) = omega arith in
-      let shown : cells (walk g depth 0 i n) ≡ cs = rw (c .shows) (cells-map cs) in
+      let shown : caseCells g i n ≡ cs = rw (c .shows) (cells-map cs) in
       (rw (w, x, one, many), rw (shown, y))
 
   pub cut-turns : (room : ℕ) (ns : List ℕ) {m c : ℕ} → inTurn g i room ns ≡ Done m c → (css : List (List ℕ)) × Cut g i ns css × (joined css ≡ rowOf g i ns)
@@ -140,7 +141,7 @@ module _ (t p : List ℕ) (a : verdict t p ≡ Accepted) (i : ℕ) (l : i < node
       let (k, items, used, f, r, s, s') = onward-done g i (fitted g i n room) _ e in
       let (q, shows, many, few) = fitted-cells g i n room k f in
       let (css, cut, same) = cut-turns (room - k) ns r in
-      (cells (walk g depth 0 i n) ∷ css, item {cs = cells (walk g depth 0 i n)} q (record { shows = shows; few = omega arith }) cut, rw same)
+      (caseCells g i n ∷ css, item {cs = caseCells g i n} q (record { shows = shows; few = omega arith }) cut, rw same)
 
   -- ---- reading
   pub gather-cut : {ns : List ℕ} {css : List (List ℕ)} (room : ℕ) → Cut g i ns css → length ns ≤ room → gather g i room (joined css) ≡ all ns
@@ -170,8 +171,8 @@ module _ (t p : List ℕ) (a : verdict t p ≡ Accepted) (i : ℕ) (l : i < node
 
   -- ---- the reader
   next-is : (row : List ℕ) (at : ℕ) → nextOf t p i row at ≡ next g i (drop at row)
-  unfolding nextOf nextPlanned
-  next-is row at = rw (a, lt-ltb i (nodes t) l)
+  unfolding nextOf
+  next-is row at = rw (opens t p a i l)
 
   counted : (n : ℕ) (xs ys : List ℕ) → Item n (length (xs ++ ys) - length ys) ≡ Item n (length xs)
   counted n xs ys = let s : length (xs ++ ys) - length ys ≡ length xs = omega (arith, length-append xs ys) in rw s

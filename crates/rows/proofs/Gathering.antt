@@ -1,9 +1,8 @@
 -- The items of a row that is read, in turn.
 --   Counting     a row's answer is that of its rest, so many numbers later
 --   Storing      and those numbers stand over the buffer's front, as far as that goes
---   stood        what stands at a place, of an answer that is found to be s
 -- Assumes nothing.
-use mathlib.Core.Path.{_≡_, refl, sym, ap, subst, _∙_}
+use mathlib.Core.Path.{_≡_, refl, sym, ap, _∙_}
 use mathlib.Core.List.{List, [], _∷_, _++_, append-assoc, append-nil}
 use Prim.Native.Nat.{ℕ, zero, suc, _+_, _-_, _≤_, _<_}
 use native.Mathlib.Nat.{not-suc-le-zero}
@@ -13,15 +12,13 @@ use Rattle.grammar.specs.declared.refusal.Refusal.{Refusal}
 use Rattle.grammar.specs.declared.refusal.Refusal.the-variants.{NoRoom}
 use Rattle.grammar.specs.Rule.{Rule}
 use Rattle.walk.specs.Filled.{over}
-use Rattle.checked.specs.Item.{Front, front, StoodBy, Stood}
+use Rattle.checked.specs.Item.{front, Stood}
 use Rattle.checked.specs.declared.item.Item.{Item}
 use Rattle.checked.specs.declared.item.Item.the-variants.{Number, Not}
 use Rattle.checked.proofs.Copying.{over-long}
+use Rattle.checked.proofs.Standing.{stood}
 use Rattle.rows.specs.ReadRow.{Gathered, all, stopped, after, full, onward, gather, answered, NumbersOver}
 use Rattle.rows.specs.declared.answer.Row.the-variants.{Done, Refused}
-
-pub stood : {f : Front} {cells : List ℕ} {at : ℕ} {r s : Item} → Stood f cells at r → r ≡ s → StoodBy f cells at s
-stood {f} {cells} {at} h e = subst (StoodBy f cells at) e (h .is)
 
 -- ---- an answer that has some numbers before it
 abbrev pub since : List ℕ → Gathered → Gathered

@@ -1,5 +1,7 @@
 -- What the proofs of the row calls and of the reader cite.
 pub mod Values
+pub mod Items
+pub mod Calls
 pub mod Turns
 pub mod Gathering
 pub mod Cuts

@@ -4,44 +4,36 @@
 --   next-moves                        an item of the reader: it has a cell, and ends within the row
 -- Assumes nothing.
 use mathlib.Core.Path.{_≡_, refl, sym, ap, _∙_}
-use mathlib.Core.Bool.{Bool, true, false}
 use mathlib.Core.List.{List, [], _∷_}
 use Prim.Native.Nat.{ℕ, _-_, _≤_, _<_}
 use native.Mathlib.Omega.{arith}
-use lib.Dec.{ltb}
 use lib.ListN.{length, take, drop, length-append, length-drop}
-use borrow.Author.Tests.{ltb-true}
-use Rattle.numbers.specs.Pick.{pick}
 use Rattle.grammar.specs.Table.{nodes}
 use Rattle.grammar.specs.Verdict.{verdict}
-use Rattle.grammar.specs.declared.refusal.Refusal.the-variants.{NoSuchStart}
 use Rattle.grammar.specs.declared.refusal.Verdict.{Verdict}
 use Rattle.grammar.specs.declared.refusal.Verdict.the-variants.{Accepted, Refused as Refuses}
 use Rattle.grammar.specs.Sizes.{rulesOf}
 use Rattle.walk.specs.Filled.{over}
 use Rattle.walk.proofs.Fills.{over-front}
 use Rattle.cases.proofs.BothSides.{case-some}
+use Rattle.checked.specs.Opening.{judged, opening}
+use Rattle.checked.proofs.Opens.{opened-means}
 use Rattle.checked.specs.Item.{Front, number, refused, front}
-use Rattle.rows.specs.Row.{judged, leaves}
-use Rattle.rows.specs.WriteRow.{inTurn, rowOf, writesRowPlanned, writesRow, WroteRow}
-use Rattle.rows.specs.ReadRow.{Gathered, all, stopped, gather, answered, gotten, readsRowPlanned, readsRow, GotRow}
-use Rattle.rows.specs.Reader.{handed, next, nextPlanned, nextOf}
-use Rattle.rows.specs.Reader as Readers
+use Rattle.rows.specs.Row.{atFirst, leaves}
+use Rattle.rows.specs.WriteRow.{inTurn, rowOf, writesRow, WroteRow}
+use Rattle.rows.specs.ReadRow.{Gathered, all, stopped, gather, answered, gotten, readsRow, GotRow}
+use Rattle.rows.specs.Reader.{handed, next, nextOf}
 use Rattle.rows.specs.declared.answer.Row.{Row}
-use Rattle.rows.specs.declared.answer.Row.the-variants.{Done, Refused}
+use Rattle.rows.specs.declared.answer.Row.the-variants.{Done}
 use Rattle.rows.specs.declared.reader.Next.the-variants.{Item, Refused as Not-handed}
 use Rattle.rows.proofs.Turns.{done-row}
 use Rattle.rows.proofs.Cuts.{gathered-fits, case-front}
 use Rattle.rows.proofs.Values.{wrote-row-is, got-row-is}
 
--- ---- an answer that is done: the table is accepted, and the start is in it
-judged-done : (v : Verdict) (r : Row) {m c : ℕ} → judged v r ≡ Done m c → r ≡ Done m c
+-- ---- an answer that is done: the call has opened
+judged-done : (v : Verdict) (r : Row) {m c : ℕ} → judged atFirst v r ≡ Done m c → r ≡ Done m c
 judged-done Accepted r e = e
 judged-done (Refuses x k) r e = let z : _≡_ {A = ℕ} 0 1 = cc in absurd (omega arith)
-
-started-done : (b : Bool) (r : Row) {m c : ℕ} → pick b r (Refused NoSuchStart 0 0) ≡ Done m c → r ≡ Done m c
-started-done true r e = e
-started-done false r e = let z : _≡_ {A = ℕ} 0 1 = cc in absurd (omega arith)
 
 answered-size : (used room : ℕ) (x : Gathered) → ((ns : List ℕ) → x ≡ all ns → length ns ≤ room) → {m c : ℕ} → answered used x ≡ Done m c
     → (m ≡ length (gotten x)) × (m ≤ room)
@@ -51,11 +43,8 @@ answered-size used room (stopped r k) f e = let z : _≡_ {A = ℕ} 0 1 = cc in 
 module _ {t p : List ℕ} {i : ℕ} where
   module _ {ns old last : List ℕ} {r : Row} (h : WroteRow t p i ns old last r) {m c : ℕ} (e : r ≡ Done m c) where
     written : (m ≡ length ns) × (c ≡ length (rowOf (rulesOf t p) i ns)) × (c ≤ length old)
-    unfolding writesRow writesRowPlanned
-    written =
-        done-row (rulesOf t p) i (length old) ns
-        (started-done (ltb i (nodes t)) (inTurn (rulesOf t p) i (length old) ns) (judged-done (verdict t p) (writesRowPlanned t p i (length old) ns)
-        (sym (wrote-row-is h) ∙ e)))
+    unfolding writesRow
+    written = done-row (rulesOf t p) i (length old) ns (judged-done (opening t p i) (inTurn (rulesOf t p) i (length old) ns) (sym (wrote-row-is h) ∙ e))
 
     pub row-size : c ≡ length (rowOf (rulesOf t p) i ns)
     row-size = written .1
@@ -71,11 +60,11 @@ module _ {t p : List ℕ} {i : ℕ} where
 
   module _ {cs old last : List ℕ} {r : Row} (h : GotRow t p i cs old last r) {m c : ℕ} (e : r ≡ Done m c) where
     read : (m ≡ length (gotten (gather (rulesOf t p) i (length old) cs))) × (m ≤ length old)
-    unfolding readsRow readsRowPlanned
+    unfolding readsRow
     read =
         let x = gather (rulesOf t p) i (length old) cs in
         answered-size (length cs) (length old) x (λ ns f. gathered-fits (rulesOf t p) i (length old) cs f)
-        (started-done (ltb i (nodes t)) (answered (length cs) x) (judged-done (verdict t p) (readsRowPlanned t p i (length old) cs) (sym (got-row-is h) ∙ e)))
+        (judged-done (opening t p i) (answered (length cs) x) (sym (got-row-is h) ∙ e))
 
     pub got-size : m ≡ length (gotten (gather (rulesOf t p) i (length old) cs))
     got-size = read .0
@@ -108,18 +97,12 @@ module _ (t p : List ℕ) (i n k : ℕ) where
       by (refused r) u v = let z : _≡_ {A = ℕ} 0 1 = cc in absurd (omega arith)
 
   module _ (row : List ℕ) (at : ℕ) where
-    started-moves : verdict t p ≡ Accepted → (b : Bool) → ltb i (nodes t) ≡ b
-        → pick b (next (rulesOf t p) i (drop at row)) (Not-handed NoSuchStart 0) ≡ Item n k → Moves (drop at row)
-    started-moves a true u e = item-moves a (ltb-true i (nodes t) u) (drop at row) e
-    started-moves a false u e = let z : _≡_ {A = ℕ} 0 1 = cc in absurd (omega arith)
-
-    judged-moves : (v : Verdict) → verdict t p ≡ v → Readers.judged v (nextPlanned t p i row at) ≡ Item n k → Moves (drop at row)
-    unfolding nextPlanned
-    judged-moves Accepted u e = started-moves u (ltb i (nodes t)) refl e
+    judged-moves : (v : Verdict) → opening t p i ≡ v → judged Not-handed v (next (rulesOf t p) i (drop at row)) ≡ Item n k → Moves (drop at row)
+    judged-moves Accepted u e = let (a, l) = opened-means t p i u in item-moves a l (drop at row) e
     judged-moves (Refuses r j) u e = let z : _≡_ {A = ℕ} 0 1 = cc in absurd (omega arith)
 
     pub next-moves : nextOf t p i row at ≡ Item n k → (at < length row) × (0 < k) × (k ≤ length row - at)
     unfolding nextOf
     next-moves e =
-        let (x, y, z) = judged-moves (verdict t p) refl e in
+        let (x, y, z) = judged-moves (opening t p i) refl e in
         (omega (arith, length-drop at row), y, omega (arith, length-drop at row))

@@ -12,10 +12,9 @@ use lib.ListN.{length, getD, take, drop, length-append, length-drop, length-take
 use lib.Seq.{take-all, take-suc, drop-cons}
 use Rattle.grammar.specs.declared.refusal.Refusal.{Refusal}
 use Rattle.grammar.specs.Rule.{Rule}
-use Rattle.walk.specs.Walk.{walk, cells, depth}
 use Rattle.walk.specs.Filled.{over}
 use Rattle.walk.proofs.Fills.{length-over, part-old, part-rest, then}
-use Rattle.checked.specs.Fits.{fitted, FitOver}
+use Rattle.checked.specs.Fits.{caseCells, fitted, FitOver}
 use Rattle.checked.specs.declared.fits.Fit.{Fit}
 use Rattle.checked.specs.declared.fits.Fit.the-variants.{Cells, Not}
 use Rattle.checked.proofs.Fitted.{fitted-cells}
@@ -80,9 +79,9 @@ module _ (g : ℕ → Rule) (i : ℕ) where
   row-append : (ms ns : List ℕ) → rowOf g i (ms ++ ns) ≡ rowOf g i ms ++ rowOf g i ns
   unfolding rowOf
   row-append [] ns = refl
-  row-append (m ∷ ms) ns = rw (row-append ms ns) (sym (append-assoc (cells (walk g depth 0 i m)) (rowOf g i ms) (rowOf g i ns)))
+  row-append (m ∷ ms) ns = rw (row-append ms ns) (sym (append-assoc (caseCells g i m) (rowOf g i ms) (rowOf g i ns)))
 
-  row-more : (ns : List ℕ) (j : ℕ) → j < length ns → rowOf g i (take (j + 1) ns) ≡ rowOf g i (take j ns) ++ cells (walk g depth 0 i (getD ns j 0))
+  row-more : (ns : List ℕ) (j : ℕ) → j < length ns → rowOf g i (take (j + 1) ns) ≡ rowOf g i (take j ns) ++ caseCells g i (getD ns j 0)
   unfolding rowOf
   row-more ns j l = rw (add-one, take-suc ns j 0 l) (row-append (take j ns) (getD ns j 0 ∷ []) ∙ rw append-nil)
 
@@ -143,7 +142,7 @@ module _ (g : ℕ → Rule) (i : ℕ) where
           let n : used ≡ min (length (rowOf g i (take j ns))) (length old) = omega (arith, h .many, h .tally .fits) in
           record {
             tally = tallying-more (h .tally) l fit-is q;
-            many = omega (arith, h .many, c, ap length (row-more ns j l), length-append (rowOf g i (take j ns)) (cells (walk g depth 0 i (getD ns j 0))));
+            many = omega (arith, h .many, c, ap length (row-more ns j l), length-append (rowOf g i (take j ns)) (caseCells g i (getD ns j 0)));
             holds = rw (row-more ns j l) (then (record { count = n; holds = h .holds }) (record { count = refl; holds = e .holds k q }) p .holds);
           }
 
@@ -174,4 +173,4 @@ module _ (g : ℕ → Rule) (i : ℕ) where
       let (k, items, used, f, r, s, s') = onward-done (fitted g i n room) _ e in
       let (a, b, c, w) = fitted-cells g i n room k f in
       let (x, y, z) = done-row (room - k) ns r in
-      (omega arith, omega (arith, length-append (cells (walk g depth 0 i n)) (rowOf g i ns)), omega arith)
+      (omega arith, omega (arith, length-append (caseCells g i n) (rowOf g i ns)), omega arith)

@@ -12,7 +12,7 @@ use Rattle.grammar.proofs.Values.{by-refusal, refused-back}
 use Rattle.rows.specs.Row.{RowAnswer, rowAnswer}
 use Rattle.rows.specs.WriteRow.{writesRow, writeRowSays, WroteRow}
 use Rattle.rows.specs.ReadRow.{readsRow, readRowSays, GotRow}
-use Rattle.rows.specs.Reader.{nextOf, afterOf, strideOf, NextAnswer, nextAnswer, nextSays, Strode}
+use Rattle.rows.specs.Reader.{nextOf, strideOf, NextAnswer, nextAnswer, nextSays, Strode}
 use Rattle.rows.specs.declared.answer.Row.{Row}
 use Rattle.rows.specs.declared.answer.Row.the-variants.{Done, Refused}
 use Rattle.rows.specs.declared.reader.Next.{Next}

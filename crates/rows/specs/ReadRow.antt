@@ -2,24 +2,22 @@
 --   Gathered    all numbers of a row, or the refusal and the item that stops it
 --   gather      of cells, with a room for numbers
 --   NumbersOver the same, over a buffer
+--   GotItems    the same, and nothing changes in a buffer where it is refused
 --   readsRow    the answer for a table, its pool, a start node, a room and the cells; readRowSays its values
 --   GotRow      the answer and the buffer's last words, for every input
 -- Assumes nothing.
 use mathlib.Core.Path.{_≡_}
 use mathlib.Core.List.{List, [], _∷_}
 use Prim.Native.Nat.{ℕ, zero, suc}
-use lib.Dec.{ltb}
 use lib.ListN.{length}
-use Rattle.numbers.specs.Pick.{pick}
-use Rattle.grammar.specs.Table.{nodes}
-use Rattle.grammar.specs.Verdict.{verdict}
 use Rattle.grammar.specs.declared.refusal.Refusal.{Refusal}
-use Rattle.grammar.specs.declared.refusal.Refusal.the-variants.{NoSuchStart, NoRoom}
+use Rattle.grammar.specs.declared.refusal.Refusal.the-variants.{NoRoom}
 use Rattle.grammar.specs.Rule.{Rule}
 use Rattle.grammar.specs.Sizes.{rulesOf}
 use Rattle.walk.specs.Filled.{over}
+use Rattle.checked.specs.Opening.{judged, opening}
 use Rattle.checked.specs.Item.{Front, number, refused, front}
-use Rattle.rows.specs.Row.{judged, leaves, RowAnswer, rowAnswer}
+use Rattle.rows.specs.Row.{atFirst, leaves, RowAnswer, rowAnswer}
 use Rattle.rows.specs.declared.answer.Row.{Row}
 use Rattle.rows.specs.declared.answer.Row.the-variants.{Done, Refused}
 
@@ -62,12 +60,8 @@ pub record NumbersOver (g : ℕ → Rule) (i room : ℕ) (cs old last : List ℕ
   pub long : length last ≡ length old
   pub holds : (m c : ℕ) → r ≡ Done m c → last ≡ over (gotten (gather g i room cs)) old
 
--- 11, then the items
-unfoldable pub readsRowPlanned : List ℕ → List ℕ → ℕ → ℕ → List ℕ → Row
-readsRowPlanned t p i room cs = pick (ltb i (nodes t)) (answered (length cs) (gather (rulesOf t p) i room cs)) (Refused NoSuchStart 0 0)
-
 unfoldable pub readsRow : List ℕ → List ℕ → ℕ → ℕ → List ℕ → Row
-readsRow t p i room cs = judged (verdict t p) (readsRowPlanned t p i room cs)
+readsRow t p i room cs = judged atFirst (opening t p i) (answered (length cs) (gather (rulesOf t p) i room cs))
 
 unfoldable pub readRowSays : List ℕ → List ℕ → ℕ → ℕ → List ℕ → RowAnswer
 readRowSays t p i room cs = rowAnswer (readsRow t p i room cs)
@@ -76,10 +70,10 @@ pub record GotRow (t p : List ℕ) (i : ℕ) (cs old last : List ℕ) (r : Row) 
   pub says : rowAnswer r ≡ readRowSays t p i (length old) cs
   pub holds : last ≡ leaves r (gotten (gather (rulesOf t p) i (length old) cs)) old
 
--- of an accepted table
-pub record GotRowPlanned (t p : List ℕ) (i : ℕ) (cs old last : List ℕ) (r : Row) : Type 0 where
-  pub is : r ≡ readsRowPlanned t p i (length old) cs
-  pub holds : last ≡ leaves r (gotten (gather (rulesOf t p) i (length old) cs)) old
+-- of a grammar and a node of it
+pub record GotItems (g : ℕ → Rule) (i : ℕ) (cs old last : List ℕ) (r : Row) : Type 0 where
+  pub is : r ≡ answered (length cs) (gather g i (length old) cs)
+  pub holds : last ≡ leaves r (gotten (gather g i (length old) cs)) old
 
 -- all its items are read
 pub record Gathers (x : Gathered) : Type 0 where

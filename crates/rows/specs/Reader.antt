@@ -10,25 +10,15 @@
 use mathlib.Core.Path.{_≡_}
 use mathlib.Core.List.{List, [], _∷_}
 use Prim.Native.Nat.{ℕ, _+_, _-_}
-use lib.Dec.{ltb}
 use lib.ListN.{length, drop}
-use Rattle.numbers.specs.Pick.{pick}
-use Rattle.grammar.specs.Table.{nodes}
 use Rattle.grammar.specs.Refusals.{numberOf}
-use Rattle.grammar.specs.Verdict.{verdict}
-use Rattle.grammar.specs.declared.refusal.Refusal.the-variants.{NoSuchStart}
-use Rattle.grammar.specs.declared.refusal.Verdict.{Verdict}
-use Rattle.grammar.specs.declared.refusal.Verdict.the-variants.{Accepted, Refused as Refuses}
 use Rattle.grammar.specs.Rule.{Rule}
 use Rattle.grammar.specs.Sizes.{rulesOf}
+use Rattle.checked.specs.Opening.{judged, opening}
 use Rattle.checked.specs.Item.{Front, number, refused, front}
 use Rattle.rows.specs.declared.reader.Next.{Next}
 use Rattle.rows.specs.declared.reader.Next.the-variants.{Item, End, Refused}
 use Rattle.rows.specs.declared.reader.Stride.{Stride}
-
-abbrev pub judged : Verdict → Next → Next
-judged Accepted x = x
-judged (Refuses r k) x = Refused r k
 
 -- an item and the count of its cells: those to come less those after it
 abbrev pub handed : ℕ → Front → Next
@@ -39,12 +29,8 @@ unfoldable pub next : (ℕ → Rule) → ℕ → List ℕ → Next
 next g i [] = End
 next g i (c ∷ cs) = handed (length (c ∷ cs)) (front g i (c ∷ cs))
 
--- 11, then the item
-unfoldable pub nextPlanned : List ℕ → List ℕ → ℕ → List ℕ → ℕ → Next
-nextPlanned t p i row at = pick (ltb i (nodes t)) (next (rulesOf t p) i (drop at row)) (Refused NoSuchStart 0)
-
 unfoldable pub nextOf : List ℕ → List ℕ → ℕ → List ℕ → ℕ → Next
-nextOf t p i row at = judged (verdict t p) (nextPlanned t p i row at)
+nextOf t p i row at = judged Refused (opening t p i) (next (rulesOf t p) i (drop at row))
 
 -- "moves past it. After a refusal it stays."
 abbrev pub afterOf : ℕ → Next → ℕ
@@ -54,10 +40,6 @@ afterOf at (Refused r k) = at
 
 abbrev pub strideOf : List ℕ → List ℕ → ℕ → List ℕ → ℕ → Stride
 strideOf t p i row at = record { answer = nextOf t p i row at; at = afterOf at (nextOf t p i row at) }
-
--- of an accepted table
-abbrev pub stridePlanned : List ℕ → List ℕ → ℕ → List ℕ → ℕ → Stride
-stridePlanned t p i row at = record { answer = nextPlanned t p i row at; at = afterOf at (nextPlanned t p i row at) }
 
 -- an item is handed out by itself, so its number in the call is 0
 pub record NextAnswer : Type 0 where

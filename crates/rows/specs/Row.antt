@@ -1,21 +1,20 @@
 -- Answers of row calls. 01: "the first that is refused stops the call, which returns its refusal and its item number from 0 (item 0 for refusals 1 to 11) ..
 -- Successful row calls return the items and cells used."
---   judged     a refused table is refused at item 0
+--   atFirst    a refusal before any item
 --   leaves     a buffer's last words: "no lent word changes" by a refusal, and success changes no more than it must
 --   rowAnswer  01's number, node, item and counts of an answer
 -- Assumes nothing.
 use mathlib.Core.List.{List}
 use Prim.Native.Nat.{ℕ}
 use Rattle.grammar.specs.Refusals.{numberOf}
-use Rattle.grammar.specs.declared.refusal.Verdict.{Verdict}
-use Rattle.grammar.specs.declared.refusal.Verdict.the-variants.{Accepted, Refused as Refuses}
+use Rattle.grammar.specs.declared.refusal.Refusal.{Refusal}
 use Rattle.walk.specs.Filled.{over}
 use Rattle.rows.specs.declared.answer.Row.{Row}
 use Rattle.rows.specs.declared.answer.Row.the-variants.{Done, Refused}
 
-abbrev pub judged : Verdict → Row → Row
-judged Accepted row = row
-judged (Refuses r k) row = Refused r k 0
+-- "item 0 for refusals 1 to 11"
+abbrev pub atFirst : Refusal → ℕ → Row
+atFirst r k = Refused r k 0
 
 abbrev pub leaves : Row → List ℕ → List ℕ → List ℕ
 leaves (Done items cells) new old = over new old

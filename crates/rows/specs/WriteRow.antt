@@ -9,20 +9,15 @@
 use mathlib.Core.Path.{_≡_}
 use mathlib.Core.List.{List, [], _∷_, _++_}
 use Prim.Native.Nat.{ℕ, _+_, _-_}
-use lib.Dec.{ltb}
 use lib.ListN.{length}
-use Rattle.numbers.specs.Pick.{pick}
-use Rattle.grammar.specs.Table.{nodes}
-use Rattle.grammar.specs.Verdict.{verdict}
-use Rattle.grammar.specs.declared.refusal.Refusal.the-variants.{NoSuchStart}
 use Rattle.grammar.specs.Rule.{Rule}
 use Rattle.grammar.specs.Sizes.{rulesOf}
-use Rattle.walk.specs.Walk.{walk, cells, depth}
 use Rattle.walk.specs.Filled.{over}
-use Rattle.checked.specs.Fits.{fitted}
+use Rattle.checked.specs.Opening.{judged, opening}
+use Rattle.checked.specs.Fits.{caseCells, fitted}
 use Rattle.checked.specs.declared.fits.Fit.{Fit}
 use Rattle.checked.specs.declared.fits.Fit.the-variants.{Cells, Not}
-use Rattle.rows.specs.Row.{judged, leaves, RowAnswer, rowAnswer}
+use Rattle.rows.specs.Row.{atFirst, leaves, RowAnswer, rowAnswer}
 use Rattle.rows.specs.declared.answer.Row.{Row}
 use Rattle.rows.specs.declared.answer.Row.the-variants.{Done, Refused}
 
@@ -42,7 +37,7 @@ inTurn g i room (n ∷ ns) = onward (fitted g i n room) (λ c. inTurn g i (room 
 
 unfoldable pub rowOf : (ℕ → Rule) → ℕ → List ℕ → List ℕ
 rowOf g i [] = []
-rowOf g i (n ∷ ns) = cells (walk g depth 0 i n) ++ rowOf g i ns
+rowOf g i (n ∷ ns) = caseCells g i n ++ rowOf g i ns
 
 -- the answer for the numbers, and what becomes of a buffer: a row that is done is over its front
 pub record RowOver (g : ℕ → Rule) (i : ℕ) (ns old last : List ℕ) (r : Row) : Type 0 where
@@ -50,21 +45,12 @@ pub record RowOver (g : ℕ → Rule) (i : ℕ) (ns old last : List ℕ) (r : Ro
   pub long : length last ≡ length old
   pub holds : (m c : ℕ) → r ≡ Done m c → last ≡ over (rowOf g i ns) old
 
--- 11, then the items
-unfoldable pub writesRowPlanned : List ℕ → List ℕ → ℕ → ℕ → List ℕ → Row
-writesRowPlanned t p i room ns = pick (ltb i (nodes t)) (inTurn (rulesOf t p) i room ns) (Refused NoSuchStart 0 0)
-
 unfoldable pub writesRow : List ℕ → List ℕ → ℕ → ℕ → List ℕ → Row
-writesRow t p i room ns = judged (verdict t p) (writesRowPlanned t p i room ns)
+writesRow t p i room ns = judged atFirst (opening t p i) (inTurn (rulesOf t p) i room ns)
 
 unfoldable pub writeRowSays : List ℕ → List ℕ → ℕ → ℕ → List ℕ → RowAnswer
 writeRowSays t p i room ns = rowAnswer (writesRow t p i room ns)
 
 pub record WroteRow (t p : List ℕ) (i : ℕ) (ns old last : List ℕ) (r : Row) : Type 0 where
   pub says : rowAnswer r ≡ writeRowSays t p i (length old) ns
-  pub holds : last ≡ leaves r (rowOf (rulesOf t p) i ns) old
-
--- of an accepted table
-pub record WroteRowPlanned (t p : List ℕ) (i : ℕ) (ns old last : List ℕ) (r : Row) : Type 0 where
-  pub is : r ≡ writesRowPlanned t p i (length old) ns
   pub holds : last ≡ leaves r (rowOf (rulesOf t p) i ns) old

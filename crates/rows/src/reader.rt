@@ -1,14 +1,14 @@
 // "A reader hands out one case at a time from the front of a lent row": a struct of the lent row and a place,
 // thin over the covered slice-and-place function.
 ghost use mathlib.Core.Path.{_≡_};
-ghost use Rattle.checked.specs.Prepared.{Blank, Planning};
-ghost use Rattle.rows.specs.Reader.{strideOf, stridePlanned, Strode};
+ghost use Rattle.checked.specs.Prepared.{Blank};
+ghost use Rattle.rows.specs.Reader.{strideOf, Strode};
 use checked::item::Item;
 use checked::item::item_at;
+use checked::opened::begin;
 use checked::prepared::PLAN;
 use checked::prepared::SMALL;
 use checked::prepared::SMALL_PLAN;
-use checked::prepared::prepare;
 use grammar::refusal::Refusal;
 use grammar::refusal::Verdict;
 
@@ -25,47 +25,11 @@ pub struct Stride {
     pub at: usize,
 }
 
-// On an accepted table: 11, then the row's end, then the case at the place.
-fn stride_planned(
-    table: &[u64],
-    pool: &[u64],
-    plan: &[u64],
-    start: usize,
-    row: &[u64],
-    at: usize,
-) -> Stride
-    requires { ⌜ Planning (now table) (now pool) (now plan) ⌝ }
-    ensures { λ r. ⌜ r ≡ stridePlanned (now (table .entry)) (now (pool .entry)) start (now (row .entry)) at ⌝ }
-{
-    if table.len() / 3 <= start {
-        return Stride {
-            answer: Next::Refused(Refusal::NoSuchStart, 0),
-            at,
-        };
-    }
-    if row.len() <= at {
-        return Stride {
-            answer: Next::End,
-            at,
-        };
-    }
-    match item_at(plan, pool, start, row, at) {
-        Item::Number(n, next) => Stride {
-            answer: Next::Item(n, next - at),
-            at: next,
-        },
-        Item::Not(r) => Stride {
-            answer: Next::Refused(r, 0),
-            at,
-        },
-    }
-}
-
-// The call over a lent plan: the check comes first.
+// The call over a lent plan: at the row's end it stays there, else it moves past the case at the place.
 fn stride_with(
-    plan: &mut [u64],
     table: &[u64],
     pool: &[u64],
+    plan: &mut [u64],
     start: usize,
     row: &[u64],
     at: usize,
@@ -73,13 +37,29 @@ fn stride_with(
     requires { ⌜ Blank (now table) (now plan) ⌝ }
     ensures { λ r. ⌜ r ≡ strideOf (now (table .entry)) (now (pool .entry)) start (now (row .entry)) at ⌝ }
 {
-    let v = prepare(table, pool, plan);
-    match v {
+    match begin(table, pool, plan, start) {
         Verdict::Refused(r, k) => Stride {
             answer: Next::Refused(r, k),
             at,
         },
-        Verdict::Accepted => stride_planned(table, pool, plan, start, row, at),
+        Verdict::Accepted => {
+            if row.len() <= at {
+                return Stride {
+                    answer: Next::End,
+                    at,
+                };
+            }
+            match item_at(pool, plan, start, row, at) {
+                Item::Number(n, next) => Stride {
+                    answer: Next::Item(n, next - at),
+                    at: next,
+                },
+                Item::Not(r) => Stride {
+                    answer: Next::Refused(r, 0),
+                    at,
+                },
+            }
+        }
     }
 }
 
@@ -89,10 +69,10 @@ fn stride_at(table: &[u64], pool: &[u64], start: usize, row: &[u64], at: usize) 
 {
     if table.len() <= SMALL {
         let mut plan = [0u64; SMALL_PLAN];
-        return stride_with(&mut plan, table, pool, start, row, at);
+        return stride_with(table, pool, &mut plan, start, row, at);
     }
     let mut plan = [0u64; PLAN];
-    stride_with(&mut plan, table, pool, start, row, at)
+    stride_with(table, pool, &mut plan, start, row, at)
 }
 
 pub struct Reader<'a> {

@@ -3,18 +3,18 @@ ghost use mathlib.Core.Path.{_≡_};
 ghost use lib.ListN.{length, set};
 ghost use Rattle.grammar.specs.Plan.{ruleIn};
 ghost use Rattle.walk.specs.Filled.{over};
-ghost use Rattle.checked.specs.Prepared.{Blank, Planning};
+ghost use Rattle.checked.specs.Prepared.{Blank};
 ghost use Rattle.walk.specs.Plan.{Reading};
 ghost use Rattle.checked.specs.Kept.{Kept};
-ghost use Rattle.rows.specs.ReadRow.{gather, Gathers, gotten, NumbersOver, GotRow, GotRowPlanned};
+ghost use Rattle.rows.specs.ReadRow.{gather, Gathers, gotten, NumbersOver, GotItems, GotRow};
 use super::answer::Row;
 use checked::copy::copy;
 use checked::item::Item;
 use checked::item::item_at;
+use checked::opened::begin;
 use checked::prepared::PLAN;
 use checked::prepared::SMALL;
 use checked::prepared::SMALL_PLAN;
-use checked::prepared::prepare;
 use grammar::refusal::Refusal;
 use grammar::refusal::Verdict;
 
@@ -36,8 +36,8 @@ fn keep(n: u64, items: usize, out: &mut [u64])
 // "the walk, then 16, then 14 if the buffer of numbers is full": decides by the room, and stores as many
 // of the numbers as the lent buffer holds.
 fn gather_row(
-    plan: &[u64],
     pool: &[u64],
+    plan: &[u64],
     start: usize,
     cells: &[u64],
     room: usize,
@@ -49,7 +49,7 @@ fn gather_row(
     let mut at: usize = 0;
     let mut items: usize = 0;
     while at < cells.len() {
-        match item_at(plan, pool, start, cells, at) {
+        match item_at(pool, plan, start, cells, at) {
             Item::Number(n, next) => {
                 if room <= items {
                     return Row::Refused(Refusal::NoRoom, 0, items);
@@ -68,8 +68,8 @@ fn gather_row(
 
 // The numbers that the deciding walks have kept; or else they are read again, over the buffer itself.
 fn settle_numbers(
-    plan: &[u64],
     pool: &[u64],
+    plan: &[u64],
     start: usize,
     cells: &[u64],
     kept: &[u64],
@@ -86,13 +86,12 @@ fn settle_numbers(
         copy(kept, count, numbers);
         return;
     }
-    gather_row(plan, pool, start, cells, numbers.len(), numbers);
+    gather_row(pool, plan, start, cells, numbers.len(), numbers);
 }
 
-// The call on an accepted table: 11, then the items. It decides over a buffer of its own, and stores only
-// once the whole row is known to be readable.
-fn read_planned(
-    table: &[u64],
+// The call on an opened table decides over a buffer of its own, and stores only once the whole row is
+// known to be readable.
+fn read_items(
     pool: &[u64],
     plan: &[u64],
     start: usize,
@@ -100,26 +99,23 @@ fn read_planned(
     scratch: &mut [u64],
     numbers: &mut [u64],
 ) -> Row
-    requires { ⌜ Planning (now table) (now pool) (now plan) ⌝ }
-    ensures { λ r. ⌜ GotRowPlanned (now (table .entry)) (now (pool .entry)) start (now (cells .entry)) (now (numbers .entry)) (now (numbers .exit)) r ⌝ }
+    requires { ⌜ Reading (now plan) (now pool) start ⌝ }
+    ensures { λ r. ⌜ GotItems (ruleIn (now (plan .entry)) (now (pool .entry))) start (now (cells .entry)) (now (numbers .entry)) (now (numbers .exit)) r ⌝ }
 {
-    if table.len() / 3 <= start {
-        return Row::Refused(Refusal::NoSuchStart, 0, 0);
-    }
-    match gather_row(plan, pool, start, cells, numbers.len(), scratch) {
+    match gather_row(pool, plan, start, cells, numbers.len(), scratch) {
         Row::Done(items, used) => {
-            settle_numbers(plan, pool, start, cells, scratch, items, numbers);
+            settle_numbers(pool, plan, start, cells, scratch, items, numbers);
             Row::Done(items, used)
         }
         Row::Refused(r, k, item) => Row::Refused(r, k, item),
     }
 }
 
-// The call over a lent plan: the check comes first.
+// The call over a lent plan.
 fn read_row_with(
-    plan: &mut [u64],
     table: &[u64],
     pool: &[u64],
+    plan: &mut [u64],
     start: usize,
     cells: &[u64],
     numbers: &mut [u64],
@@ -127,16 +123,15 @@ fn read_row_with(
     requires { ⌜ Blank (now table) (now plan) ⌝ }
     ensures { λ r. ⌜ GotRow (now (table .entry)) (now (pool .entry)) start (now (cells .entry)) (now (numbers .entry)) (now (numbers .exit)) r ⌝ }
 {
-    let v = prepare(table, pool, plan);
-    match v {
+    match begin(table, pool, plan, start) {
         Verdict::Refused(r, k) => Row::Refused(r, k, 0),
         Verdict::Accepted => {
             if cells.len() <= FEW {
                 let mut scratch = [0u64; FEW];
-                return read_planned(table, pool, plan, start, cells, &mut scratch, numbers);
+                return read_items(pool, plan, start, cells, &mut scratch, numbers);
             }
             let mut scratch = [0u64; MANY];
-            read_planned(table, pool, plan, start, cells, &mut scratch, numbers)
+            read_items(pool, plan, start, cells, &mut scratch, numbers)
         }
     }
 }
@@ -153,8 +148,8 @@ pub fn read_row(
 {
     if table.len() <= SMALL {
         let mut plan = [0u64; SMALL_PLAN];
-        return read_row_with(&mut plan, table, pool, start, cells, numbers);
+        return read_row_with(table, pool, &mut plan, start, cells, numbers);
     }
     let mut plan = [0u64; PLAN];
-    read_row_with(&mut plan, table, pool, start, cells, numbers)
+    read_row_with(table, pool, &mut plan, start, cells, numbers)
 }

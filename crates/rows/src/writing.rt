@@ -1,30 +1,29 @@
 // From numbers to a row of cells.
 ghost use mathlib.Core.Path.{_≡_};
 ghost use Rattle.grammar.specs.Plan.{ruleIn};
-ghost use Rattle.checked.specs.Prepared.{Blank, Planning};
+ghost use Rattle.checked.specs.Prepared.{Blank};
 ghost use Rattle.walk.specs.Plan.{Reading};
-ghost use Rattle.rows.specs.WriteRow.{inTurn, RowOver, WroteRow, WroteRowPlanned};
+ghost use Rattle.rows.specs.WriteRow.{inTurn, RowOver, WroteRow};
 use super::answer::Row;
 use checked::decided::decided;
 use checked::fits::Fit;
 use checked::fits::fits;
+use checked::opened::begin;
 use checked::prepared::PLAN;
 use checked::prepared::SMALL;
 use checked::prepared::SMALL_PLAN;
-use checked::prepared::prepare;
-use grammar::refusal::Refusal;
 use grammar::refusal::Verdict;
 
 // "items in order; the first that is refused stops the call": the first pass decides, and is lent no cell
 // that it could write.
-fn decide_row(plan: &[u64], pool: &[u64], start: usize, numbers: &[u64], room: usize) -> Row
+fn decide_row(pool: &[u64], plan: &[u64], start: usize, numbers: &[u64], room: usize) -> Row
     requires { ⌜ Reading (now plan) (now pool) start ⌝ }
     ensures { λ r. ⌜ r ≡ inTurn (ruleIn (now (plan .entry)) (now (pool .entry))) start room (now (numbers .entry)) ⌝ }
 {
     let mut item: usize = 0;
     let mut used: usize = 0;
     while item < numbers.len() {
-        match decided(plan, pool, start, numbers[item], room - used) {
+        match decided(pool, plan, start, numbers[item], room - used) {
             Fit::Cells(k) => {
                 used += k;
                 item += 1;
@@ -38,14 +37,14 @@ fn decide_row(plan: &[u64], pool: &[u64], start: usize, numbers: &[u64], room: u
 }
 
 // The second pass writes each case into what the ones before it leave of the buffer.
-fn lay_row(plan: &[u64], pool: &[u64], start: usize, numbers: &[u64], cells: &mut [u64]) -> Row
+fn lay_row(pool: &[u64], plan: &[u64], start: usize, numbers: &[u64], cells: &mut [u64]) -> Row
     requires { ⌜ Reading (now plan) (now pool) start ⌝ }
     ensures { λ r. ⌜ RowOver (ruleIn (now (plan .entry)) (now (pool .entry))) start (now (numbers .entry)) (now (cells .entry)) (now (cells .exit)) r ⌝ }
 {
     let mut items: usize = 0;
     let mut used: usize = 0;
     while items < numbers.len() {
-        match fits(plan, pool, start, numbers[items], &mut cells[used..]) {
+        match fits(pool, plan, start, numbers[items], &mut cells[used..]) {
             Fit::Cells(k) => {
                 used += k;
                 items += 1;
@@ -58,32 +57,11 @@ fn lay_row(plan: &[u64], pool: &[u64], start: usize, numbers: &[u64], cells: &mu
     Row::Done(items, used)
 }
 
-// The call on an accepted table: 11, then the items. No cell is written before the whole row is known to fit.
-fn write_planned(
-    table: &[u64],
-    pool: &[u64],
-    plan: &[u64],
-    start: usize,
-    numbers: &[u64],
-    cells: &mut [u64],
-) -> Row
-    requires { ⌜ Planning (now table) (now pool) (now plan) ⌝ }
-    ensures { λ r. ⌜ WroteRowPlanned (now (table .entry)) (now (pool .entry)) start (now (numbers .entry)) (now (cells .entry)) (now (cells .exit)) r ⌝ }
-{
-    if table.len() / 3 <= start {
-        return Row::Refused(Refusal::NoSuchStart, 0, 0);
-    }
-    match decide_row(plan, pool, start, numbers, cells.len()) {
-        Row::Done(_, _) => lay_row(plan, pool, start, numbers, cells),
-        Row::Refused(r, k, item) => Row::Refused(r, k, item),
-    }
-}
-
-// The call over a lent plan: the check comes first.
+// The call over a lent plan. No cell is written before the whole row is known to fit.
 fn write_row_with(
-    plan: &mut [u64],
     table: &[u64],
     pool: &[u64],
+    plan: &mut [u64],
     start: usize,
     numbers: &[u64],
     cells: &mut [u64],
@@ -91,10 +69,12 @@ fn write_row_with(
     requires { ⌜ Blank (now table) (now plan) ⌝ }
     ensures { λ r. ⌜ WroteRow (now (table .entry)) (now (pool .entry)) start (now (numbers .entry)) (now (cells .entry)) (now (cells .exit)) r ⌝ }
 {
-    let v = prepare(table, pool, plan);
-    match v {
+    match begin(table, pool, plan, start) {
         Verdict::Refused(r, k) => Row::Refused(r, k, 0),
-        Verdict::Accepted => write_planned(table, pool, plan, start, numbers, cells),
+        Verdict::Accepted => match decide_row(pool, plan, start, numbers, cells.len()) {
+            Row::Done(_, _) => lay_row(pool, plan, start, numbers, cells),
+            Row::Refused(r, k, item) => Row::Refused(r, k, item),
+        },
     }
 }
 
@@ -110,8 +90,8 @@ pub fn write_row(
 {
     if table.len() <= SMALL {
         let mut plan = [0u64; SMALL_PLAN];
-        return write_row_with(&mut plan, table, pool, start, numbers, cells);
+        return write_row_with(table, pool, &mut plan, start, numbers, cells);
     }
     let mut plan = [0u64; PLAN];
-    write_row_with(&mut plan, table, pool, start, numbers, cells)
+    write_row_with(table, pool, &mut plan, start, numbers, cells)
 }

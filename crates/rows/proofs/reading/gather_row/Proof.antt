@@ -5,15 +5,16 @@ use Prim.Native.Nat.{_-_}
 use native.Mathlib.Omega.{arith}
 use lib.ListN.{length}
 use Rattle.grammar.specs.Plan.{ruleIn}
-use Rattle.rows.proofs.Gathering.{stood, Storing, storing-none, same-length, storing-more, storing-full, storing-stops, storing-done}
+use Rattle.checked.proofs.Standing.{stood}
+use Rattle.rows.proofs.Gathering.{Storing, storing-none, same-length, storing-more, storing-full, storing-stops, storing-done}
 use Rattle.rows.proofs.reading.gather_row.Statement.{statement}
 use Rattle.rows.proofs.reading.gather_row.Tie as tie
 
 abbrev Inv-loop : tie.InvT-loop
-Inv-loop plan pool start cells room out₀ at₀ items₀ out at items = Storing (ruleIn plan pool) start room cells out₀ out at items
+Inv-loop pool plan start cells room out₀ at₀ items₀ out at items = Storing (ruleIn plan pool) start room cells out₀ out at items
 
 abbrev μ-loop : tie.MeasureT-loop
-μ-loop plan pool start cells room out₀ at₀ items₀ out at items = length cells - at
+μ-loop pool plan start cells room out₀ at₀ items₀ out at items = length cells - at
 
 pub gather-row-spec : {M : Type 1} → statement M
 gather-row-spec =

@@ -1,7 +1,8 @@
--- `rows::reading::read_row_with` checks the table first.
+-- `rows::reading::read_row_with` opens, and reads the items.
 -- Assumes nothing.
 use borrow.Author.Needs.{needs}
-use Rattle.rows.proofs.reading.Laws.{got-refused, got-planned}
+use Rattle.rows.proofs.Items.{items-long}
+use Rattle.rows.proofs.Calls.{got-refused, got-items}
 use Rattle.rows.proofs.reading.read_row_with.Statement.{statement}
 use Rattle.rows.proofs.reading.read_row_with.Tie as tie
 
@@ -13,18 +14,14 @@ read-row-with-spec =
     (λ c. search needs)
     (λ c. search needs)
     (λ c. search needs)
-    (λ c κs. c .before .before .before .before .before .before .before .before .prepare .ensures .ready
-    (c .before .before .before .before .enum-told .given .1))
+    (λ c κs. let at-enum-told = c .before .before .before .before in let at-begin = at-enum-told .before .before .before .before in at-begin .begin .ensures .ready (at-enum-told .enum-told .given .1) .reads)
     (λ c. search needs)
+    (λ c. let at-read-items = c .before .before .before in items-long (at-read-items .read-items .ensures))
+    (λ c. let at-read-items = c .before .before .before in let at-enum-told = at-read-items .before .before .before .before .before in let at-begin = at-enum-told .before .before .before .before in got-items (at-begin .begin .ensures) (at-enum-told .enum-told .given .1) (at-read-items .read-items .ensures))
     (λ c. search needs)
-    (λ c. got-planned (c .before .before .before .before .before .before .before .before .before .before .before .before .prepare .ensures)
-    (c .before .before .before .before .before .before .before .before .enum-told .given .1) (c .before .before .before .read-planned .ensures))
+    (λ c κs. let at-enum-told = c .before .before .before .before in let at-begin = at-enum-told .before .before .before .before in at-begin .begin .ensures .ready (at-enum-told .enum-told .given .1) .reads)
     (λ c. search needs)
-    (λ c κs. c .before .before .before .before .before .before .before .before .prepare .ensures .ready
-    (c .before .before .before .before .enum-told .given .1))
+    (λ c. let at-begin = c .before .before .before .before .before in got-refused (at-begin .begin .ensures) (c .before .r .given .1))
     (λ c. search needs)
-    (λ c. got-refused (c .before .before .before .before .before .prepare .ensures) (c .before .v .given .1))
-    (λ c. search needs)
-    (λ c. search needs)
-    (λ c. got-planned (c .before .before .before .before .before .before .before .before .before .before .before .before .prepare .ensures)
-    (c .before .before .before .before .before .before .before .before .enum-told .given .1) (c .before .before .before .read-planned2 .ensures)))
+    (λ c. let at-read-items2 = c .before .before .before in items-long (at-read-items2 .read-items2 .ensures))
+    (λ c. let at-read-items2 = c .before .before .before in let at-enum-told = at-read-items2 .before .before .before .before .before in let at-begin = at-enum-told .before .before .before .before in got-items (at-begin .begin .ensures) (at-enum-told .enum-told .given .1) (at-read-items2 .read-items2 .ensures)))

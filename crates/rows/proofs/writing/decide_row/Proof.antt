@@ -10,10 +10,10 @@ use Rattle.rows.proofs.writing.decide_row.Statement.{statement}
 use Rattle.rows.proofs.writing.decide_row.Tie as tie
 
 abbrev Inv-loop : tie.InvT-loop
-Inv-loop plan pool start numbers room item₀ used₀ item used = Tallying (ruleIn plan pool) start room numbers item used
+Inv-loop pool plan start numbers room item₀ used₀ item used = Tallying (ruleIn plan pool) start room numbers item used
 
 abbrev μ-loop : tie.MeasureT-loop
-μ-loop plan pool start numbers room item₀ used₀ item used = length numbers - item
+μ-loop pool plan start numbers room item₀ used₀ item used = length numbers - item
 
 pub decide-row-spec : {M : Type 1} → statement M
 decide-row-spec =

@@ -11,10 +11,10 @@ use Rattle.rows.proofs.writing.lay_row.Statement.{statement}
 use Rattle.rows.proofs.writing.lay_row.Tie as tie
 
 abbrev Inv-loop : tie.InvT-loop
-Inv-loop plan pool start numbers cells₀ items₀ used₀ cells items used = Laying (ruleIn plan pool) start numbers cells₀ cells items used
+Inv-loop pool plan start numbers cells₀ items₀ used₀ cells items used = Laying (ruleIn plan pool) start numbers cells₀ cells items used
 
 abbrev μ-loop : tie.MeasureT-loop
-μ-loop plan pool start numbers cells₀ items₀ used₀ cells items used = length numbers - items
+μ-loop pool plan start numbers cells₀ items₀ used₀ cells items used = length numbers - items
 
 pub lay-row-spec : {M : Type 1} → statement M
 lay-row-spec =
