@@ -1,7 +1,7 @@
 """The listings of documents 000 and 001 that a table can express, with what the papers print.
 
-Prints the input of the program `calls_listings`; with the argument `answers`, what it must print. Nothing here asks the
-reference: a listing's elements stand as the paper prints them, and an encoding says which cells stand for an element.
+Prints an input of the program `calls`; with the argument `answers`, what it must print. Nothing here asks the reference:
+a listing's elements stand as the paper prints them, and an encoding says which cells stand for an element.
 docs/LISTINGS.md has a line for each.
 """
 

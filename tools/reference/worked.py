@@ -1,6 +1,6 @@
 """The worked cases of document 01 and the settled readings of it, with their answers as the documents give them.
 
-Prints the input of the program `calls_worked`; with the argument `answers`, what it must print. A line of the texts is
+Prints an input of the program `calls`; with the argument `answers`, what it must print. A line of the texts is
 
     table NODE, NODE, .. | POOL      a table; without a bar its pool is empty
     START at NUMBER is CELLS         the case of a number, written and read

@@ -80,7 +80,7 @@ pub worked : map (map asked) marked ≡ map (map expected) marked
 unfolding asked expected walking fitted walks writes written writeSays found finds reads readOf readSays
 worked = refl
 
--- of the rest, which are run and compared (`calls_worked`), those that compute at once
+-- of the rest, which are run and compared (`vectors_rows`), those that compute at once
 abbrev pub others : List Worked
 others =
     reads-as L [] 5 (1 ∷ 6 ∷ 0 ∷ 0 ∷ []) 0 43

@@ -1,4 +1,4 @@
-// The listings of documents 000 and 001: each call of standard input is answered on standard output.
+// The vectors of `write` and `check`, answered as the program `calls` answers.
 use calling::INPUT_ROOM;
 
 fn main() {

@@ -1,4 +1,4 @@
-// The `write` vectors: each call of standard input is answered on standard output.
+// The vectors of `read`, answered as the program `calls` answers.
 use calling::INPUT_ROOM;
 
 fn main() {

@@ -1,4 +1,4 @@
-// The `check` vectors: each call of standard input is answered on standard output.
+// The vectors of rows, and the cases that the documents print, answered as the program `calls` answers.
 use calling::INPUT_ROOM;
 
 fn main() {

@@ -1,4 +1,4 @@
-// The `rows` vectors: each call of standard input is answered on standard output.
+// The program of the calls: each call of standard input is answered on standard output.
 use calling::INPUT_ROOM;
 
 fn main() {

@@ -1,7 +1,0 @@
-// The worked cases of document 01 and the settled readings: each call of standard input is answered on standard output.
-use calling::INPUT_ROOM;
-
-fn main() {
-    let mut room = [0u8; INPUT_ROOM];
-    calling::answer_input(&mut room);
-}
