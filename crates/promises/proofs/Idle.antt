@@ -15,21 +15,22 @@ use Rattle.grammar.specs.Sizes.{rulesOf}
 use Rattle.walk.specs.Walk.{walk}
 use Rattle.walk.specs.Walk
 use Rattle.checked.specs.Fits.{fitted}
-use Rattle.checked.specs.Item.{frontOf}
+use Rattle.checked.specs.Opening.{opening}
+use Rattle.checked.specs.Item.{frontOf, wholeOf}
 use Rattle.walk.specs.Filled.{over}
 use Rattle.walk.proofs.Opened.{walking}
 use Rattle.grammar.specs.Verdict.{verdict, answer, checkSays}
 use Rattle.grammar.specs.declared.refusal.Refusal.{Refusal}
 use Rattle.grammar.specs.declared.refusal.Verdict.the-variants.{Accepted, Refused as Refuses}
-use Rattle.cases.specs.Write.{walks, writes, Wrote}
-use Rattle.cases.specs.Read.{found, finds, reads, readOf, readSays}
+use Rattle.cases.specs.Write.{writes, Wrote}
+use Rattle.cases.specs.Read.{reads, readOf, readSays}
 use Rattle.cases.specs.declared.writing.Written.the-variants.{Done, Refused}
 use Rattle.cases.specs.declared.reading.Found.the-variants.{Number, Refused as Not-found}
 use Rattle.promises.proofs.Worked.{L}
-use Rattle.rows.specs.WriteRow.{writesRowPlanned, writesRow, WroteRow}
+use Rattle.rows.specs.WriteRow.{writesRow, WroteRow}
 use Rattle.rows.specs.WriteRow as Written
-use Rattle.rows.specs.ReadRow.{gather, gotten, readsRowPlanned, readsRow, GotRow}
-use Rattle.rows.specs.Reader.{next, nextPlanned, nextOf, Strode}
+use Rattle.rows.specs.ReadRow.{gather, gotten, readsRow, GotRow}
+use Rattle.rows.specs.Reader.{next, nextOf, Strode}
 use Rattle.rows.specs.declared.answer.Row.the-variants.{Done as Row-done, Refused as Row-refused}
 use Rattle.rows.specs.declared.reader.Next.the-variants.{Item, Refused as Not-handed}
 use Rattle.rows.specs.declared.reader.Stride.{Stride}
@@ -58,7 +59,7 @@ computed :
     × (over (Walk.cells (walk (rulesOf L []) 200 0 5 1)) blank ≡ 1 ∷ 0 ∷ 0 ∷ 0 ∷ [])
     × (writes L [] 5 1 4 ≡ Done 4)
     × (reads L [] 5 (1 ∷ 0 ∷ 0 ∷ 0 ∷ []) ≡ Number 1)
-unfolding walking fitted walks writes over found finds reads
+unfolding walking fitted opening writes over frontOf wholeOf reads
 computed = (refl, refl, refl, refl, refl, refl)
 
 computed-rows :
@@ -68,7 +69,7 @@ computed-rows :
     × (over (gotten (gather (rulesOf L []) 5 4 (0 ∷ 0 ∷ 0 ∷ 0 ∷ []))) blank ≡ 0 ∷ 0 ∷ 7 ∷ 7 ∷ [])
     × (over (gotten (gather (rulesOf L []) 5 4 (1 ∷ 0 ∷ 0 ∷ 0 ∷ []))) blank ≡ 1 ∷ 7 ∷ 7 ∷ 7 ∷ [])
     × (nextOf L [] 5 (0 ∷ 0 ∷ []) 0 ≡ Item 0 2)
-unfolding walking fitted frontOf writesRowPlanned writesRow Written.inTurn Written.rowOf gather readsRowPlanned readsRow over next nextPlanned nextOf
+unfolding walking fitted frontOf opening writesRow Written.inTurn Written.rowOf gather readsRow over next nextOf
 computed-rows = (refl, refl, refl, refl, refl, refl)
 
 -- a tag that changes with the number, and a pool word that does

@@ -9,9 +9,11 @@ use Rattle.grammar.specs.Sizes.{rulesOf}
 use Rattle.walk.specs.Walk.{walk, depth}
 use Rattle.walk.specs.Walk
 use Rattle.walk.proofs.Opened.{walking}
+use Rattle.checked.specs.Opening.{opening}
+use Rattle.checked.specs.Item.{frontOf, wholeOf}
 use Rattle.checked.specs.Fits.{fitted}
-use Rattle.cases.specs.Write.{walks, writes, WriteAnswer, written, writeSays}
-use Rattle.cases.specs.Read.{found, finds, reads, ReadAnswer, readOf, readSays}
+use Rattle.cases.specs.Write.{writes, WriteAnswer, written, writeSays}
+use Rattle.cases.specs.Read.{reads, ReadAnswer, readOf, readSays}
 use Rattle.promises.proofs.Worked.{L}
 
 -- a table, its pool, a start node, a number and its cells; or the cells, the refusal's number and the number found
@@ -77,7 +79,7 @@ marked =
     ∷ []
 
 pub worked : map (map asked) marked ≡ map (map expected) marked
-unfolding asked expected walking fitted walks writes written writeSays found finds reads readOf readSays
+unfolding asked expected walking fitted opening writes written writeSays frontOf wholeOf reads readOf readSays
 worked = refl
 
 -- of the rest, which are run and compared (`vectors_rows`), those that compute at once
@@ -92,5 +94,5 @@ others =
     ∷ []
 
 pub others-worked : map asked others ≡ map expected others
-unfolding asked expected walking fitted walks writes written writeSays found finds reads readOf readSays
+unfolding asked expected walking fitted opening writes written writeSays frontOf wholeOf reads readOf readSays
 others-worked = refl

@@ -8,13 +8,14 @@ use Rattle.grammar.specs.Checks.{row}
 use Rattle.grammar.specs.Sizes.{rulesOf}
 use Rattle.walk.proofs.Opened.{walking}
 use Rattle.checked.specs.Fits.{fitted}
+use Rattle.checked.specs.Opening.{opening}
 use Rattle.checked.specs.Item.{frontOf}
 use Rattle.promises.proofs.Worked.{L}
 use Rattle.rows.specs.Row.{RowAnswer, rowAnswer}
-use Rattle.rows.specs.WriteRow.{writesRowPlanned, writesRow, writeRowSays}
+use Rattle.rows.specs.WriteRow.{writesRow, writeRowSays}
 use Rattle.rows.specs.WriteRow as Written
-use Rattle.rows.specs.ReadRow.{gather, gotten, readsRowPlanned, readsRow, readRowSays}
-use Rattle.rows.specs.Reader.{next, nextPlanned, nextOf, NextAnswer, nextAnswer, nextSays}
+use Rattle.rows.specs.ReadRow.{gather, gotten, readsRow, readRowSays}
+use Rattle.rows.specs.Reader.{next, nextOf, NextAnswer, nextAnswer, nextSays}
 
 -- a table, a start node, a room, and numbers with what their row is; a room and cells with what they read as; a row and a place with what the reader says
 pub data Worked : Type 0 where
@@ -74,6 +75,6 @@ rows =
     ∷ []
 
 pub worked : map asked rows ≡ map expected rows
-unfolding asked expected walking fitted frontOf rowAnswer writesRowPlanned writesRow writeRowSays Written.inTurn Written.rowOf gather readsRowPlanned readsRow
-    readRowSays next nextPlanned nextOf nextAnswer nextSays
+unfolding asked expected walking fitted frontOf rowAnswer opening writesRow writeRowSays Written.inTurn Written.rowOf gather readsRow
+    readRowSays next nextOf nextAnswer nextSays
 worked = refl
