@@ -18,7 +18,7 @@ pub fn decided(pool: &[u64], plan: &[u64], start: usize, number: u64, room: usiz
 {
     if asked(plan[4 * start + 3], number) {
         let most = room_for(room);
-        return fit_of(most, tally(&plan, &pool, start, number, DEPTH, most));
+        return fit_of(most, tally(&pool, &plan, start, number, DEPTH, most));
     }
     Fit::Not(Refusal::NoSuchNumber)
 }

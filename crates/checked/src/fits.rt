@@ -61,7 +61,7 @@ pub fn fits(pool: &[u64], plan: &[u64], start: usize, number: u64, out: &mut [u6
 {
     if asked(plan[4 * start + 3], number) {
         let most = room_for(out.len());
-        let rest = lay(&plan, &pool, start, number, 0, DEPTH, &mut out[..most]);
+        let rest = lay(&pool, &plan, start, number, 0, DEPTH, &mut out[..most]);
         return fit_of(most, rest);
     }
     Fit::Not(Refusal::NoSuchNumber)

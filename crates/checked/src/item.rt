@@ -57,7 +57,7 @@ fn got_at(pool: &[u64], plan: &[u64], start: usize, cells: &[u64], at: usize) ->
     let few = room_for(left);
     let row = &cells[at..at + few];
     let mut used: usize = 0;
-    let word = take(&plan, &pool, &row, start, DEPTH, 0, &mut used);
+    let word = take(&pool, &plan, start, &row, DEPTH, 0, &mut used);
     if word <= BIG {
         return Got::Case(word, at + used);
     }

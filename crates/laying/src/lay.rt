@@ -31,7 +31,7 @@ fn put(c: u64, out: &mut [u64]) -> usize
 }
 
 // A tag cell, then a part.
-fn tagged(lent: &&[u64], words: &&[u64], s: Tagged, left: usize, out: &mut [u64]) -> usize
+fn tagged(words: &&[u64], lent: &&[u64], s: Tagged, left: usize, out: &mut [u64]) -> usize
     requires { ⌜ Visits (now (now lent)) (now (now words)) (s .part) (s .number) ⌝ }
     requires { ⌜ (s .number + left ≤ 2 ^ 62 + 200) × (left ≤ 200) × (length (now out) ≤ most) ⌝ }
     ensures { λ r. ⌜ Laid (length (now (out .entry)))
@@ -42,12 +42,12 @@ fn tagged(lent: &&[u64], words: &&[u64], s: Tagged, left: usize, out: &mut [u64]
         return NO_ROOM;
     }
     out[0] = s.tag;
-    lay(lent, words, s.part, s.number, 0, left, &mut out[1..])
+    lay(words, lent, s.part, s.number, 0, left, &mut out[1..])
 }
 
 // Two parts at two numbers. "The second part's cells start right after the first part's": the middle of
 // the buffer that remains is lent on for them.
-fn both(lent: &&[u64], words: &&[u64], s: Two, left: usize, out: &mut [u64]) -> usize
+fn both(words: &&[u64], lent: &&[u64], s: Two, left: usize, out: &mut [u64]) -> usize
     requires { ⌜ Visits (now (now lent)) (now (now words)) (s .first) (s .x) × Visits (now (now lent)) (now (now words)) (s .second) (s .y) ⌝ }
     requires { ⌜ (s .x + left ≤ 2 ^ 62 + 200) × (s .y + left ≤ 2 ^ 62 + 200) × (left ≤ 200) × (length (now out) ≤ most) ⌝ }
     ensures { λ r. ⌜ Laid (length (now (out .entry)))
@@ -55,20 +55,20 @@ fn both(lent: &&[u64], words: &&[u64], s: Two, left: usize, out: &mut [u64]) -> 
         ++ walk (ruleIn (now (now (lent .entry))) (now (now (words .entry)))) left 0 (s .second) (s .y))
         (now (out .entry)) (now (out .exit)) (leftOf r) ⌝ }
 {
-    let rest = lay(lent, words, s.first, s.x, 0, left, out);
+    let rest = lay(words, lent, s.first, s.x, 0, left, out);
     if TOO_DEEP <= rest {
         return rest;
     }
     let k = out.len() - rest;
-    lay(lent, words, s.second, s.y, 0, left, &mut out[k..])
+    lay(words, lent, s.second, s.y, 0, left, &mut out[k..])
 }
 
 // "visits the node's parts at one depth more": the walk calls itself on parts, and the depth left falls.
 // `up` is what the shifts above add to the first cell. Only a below, a nats or a shift stands under a
 // shift, so every other kind has 0 there.
 pub fn lay(
-    lent: &&[u64],
     words: &&[u64],
+    lent: &&[u64],
     i: usize,
     n: u64,
     up: u64,
@@ -92,25 +92,25 @@ pub fn lay(
         kinds::BELOW => put(n + up, out),
         kinds::NATS => put(n + up, out),
         kinds::POOL => put(pool::step(*words, a, n), out),
-        kinds::SHIFT => lay(lent, words, a, n, up + b, left - 1, out),
-        kinds::OR => tagged(lent, words, or::step(plan, a, b as usize, n), left - 1, out),
+        kinds::SHIFT => lay(words, lent, a, n, up + b, left - 1, out),
+        kinds::OR => tagged(words, lent, or::step(plan, a, b as usize, n), left - 1, out),
         kinds::CONS => both(
-            lent,
             words,
+            lent,
             cons::step(plan, a, b as usize, n),
             left - 1,
             out,
         ),
         kinds::DEP => both(
-            lent,
             words,
-            dep::step(plan, *words, a, b as usize, n),
+            lent,
+            dep::step(*words, plan, a, b as usize, n),
             left - 1,
             out,
         ),
-        kinds::EXCEPT => lay(lent, words, a, except::split(b, n), 0, left - 1, out),
-        kinds::FIX => lay(lent, words, a, n, 0, left - 1, out),
-        kinds::AGAIN => lay(lent, words, a, n, 0, left - 1, out),
+        kinds::EXCEPT => lay(words, lent, a, except::split(b, n), 0, left - 1, out),
+        kinds::FIX => lay(words, lent, a, n, 0, left - 1, out),
+        kinds::AGAIN => lay(words, lent, a, n, 0, left - 1, out),
         // Not reached: a checked plan has no other kind.
         _ => NO_ROOM,
     }

@@ -33,7 +33,7 @@ fn one(room: usize) -> usize
 }
 
 // A tag cell, then a part.
-fn tagged(lent: &&[u64], words: &&[u64], s: Tagged, left: usize, room: usize) -> usize
+fn tagged(words: &&[u64], lent: &&[u64], s: Tagged, left: usize, room: usize) -> usize
     requires { ⌜ Visits (now (now lent)) (now (now words)) (s .part) (s .number) ⌝ }
     requires { ⌜ (s .number + left ≤ 2 ^ 62 + 200) × (left ≤ 200) × (room ≤ most) ⌝ }
     ensures { λ r. ⌜ leftOf r ≡ tallied room (cell 0 ∷ walk (ruleIn (now (now (lent .entry))) (now (now (words .entry)))) left 0 (s .part) (s .number)) ⌝ }
@@ -41,26 +41,26 @@ fn tagged(lent: &&[u64], words: &&[u64], s: Tagged, left: usize, room: usize) ->
     if room == 0 {
         return NO_ROOM;
     }
-    tally(lent, words, s.part, s.number, left, room - 1)
+    tally(words, lent, s.part, s.number, left, room - 1)
 }
 
 // Two parts at two numbers.
-fn both(lent: &&[u64], words: &&[u64], s: Two, left: usize, room: usize) -> usize
+fn both(words: &&[u64], lent: &&[u64], s: Two, left: usize, room: usize) -> usize
     requires { ⌜ Visits (now (now lent)) (now (now words)) (s .first) (s .x) × Visits (now (now lent)) (now (now words)) (s .second) (s .y) ⌝ }
     requires { ⌜ (s .x + left ≤ 2 ^ 62 + 200) × (s .y + left ≤ 2 ^ 62 + 200) × (left ≤ 200) × (room ≤ most) ⌝ }
     ensures { λ r. ⌜ leftOf r ≡ tallied room
         (walk (ruleIn (now (now (lent .entry))) (now (now (words .entry)))) left 0 (s .first) (s .x)
         ++ walk (ruleIn (now (now (lent .entry))) (now (now (words .entry)))) left 0 (s .second) (s .y)) ⌝ }
 {
-    let rest = tally(lent, words, s.first, s.x, left, room);
+    let rest = tally(words, lent, s.first, s.x, left, room);
     if TOO_DEEP <= rest {
         return rest;
     }
-    tally(lent, words, s.second, s.y, left, rest)
+    tally(words, lent, s.second, s.y, left, rest)
 }
 
 // "visits the node's parts at one depth more": the walk calls itself on parts, and the depth left falls.
-pub fn tally(lent: &&[u64], words: &&[u64], i: usize, n: u64, left: usize, room: usize) -> usize
+pub fn tally(words: &&[u64], lent: &&[u64], i: usize, n: u64, left: usize, room: usize) -> usize
     requires { ⌜ Visits (now (now lent)) (now (now words)) i n ⌝ }
     requires { ⌜ (n + left ≤ 2 ^ 62 + 200) × (left ≤ 200) × (room ≤ most) ⌝ }
     ensures { λ r. ⌜ leftOf r ≡ tallied room (walk (ruleIn (now (now (lent .entry))) (now (now (words .entry)))) left 0 i n) ⌝ }
@@ -76,31 +76,31 @@ pub fn tally(lent: &&[u64], words: &&[u64], i: usize, n: u64, left: usize, room:
         kinds::BELOW => one(room),
         kinds::NATS => one(room),
         kinds::POOL => one(room),
-        kinds::SHIFT => tally(lent, words, a, n, left - 1, room),
+        kinds::SHIFT => tally(words, lent, a, n, left - 1, room),
         kinds::OR => tagged(
-            lent,
             words,
+            lent,
             or::step(plan, a, b as usize, n),
             left - 1,
             room,
         ),
         kinds::CONS => both(
-            lent,
             words,
+            lent,
             cons::step(plan, a, b as usize, n),
             left - 1,
             room,
         ),
         kinds::DEP => both(
-            lent,
             words,
-            dep::step(plan, *words, a, b as usize, n),
+            lent,
+            dep::step(*words, plan, a, b as usize, n),
             left - 1,
             room,
         ),
-        kinds::EXCEPT => tally(lent, words, a, except::split(b, n), left - 1, room),
-        kinds::FIX => tally(lent, words, a, n, left - 1, room),
-        kinds::AGAIN => tally(lent, words, a, n, left - 1, room),
+        kinds::EXCEPT => tally(words, lent, a, except::split(b, n), left - 1, room),
+        kinds::FIX => tally(words, lent, a, n, left - 1, room),
+        kinds::AGAIN => tally(words, lent, a, n, left - 1, room),
         // Not reached: a checked plan has no other kind.
         _ => NO_ROOM,
     }

@@ -26,11 +26,11 @@ const TAGS: u64 = 2;
 
 // or: a tag, and the part that it leads to. 15: "a tag above 1"
 fn tagged(
-    lent: &&[u64],
     words: &&[u64],
-    row: &&[u64],
+    lent: &&[u64],
     a: usize,
     b: usize,
+    row: &&[u64],
     left: usize,
     off: u64,
     at: &mut usize,
@@ -45,7 +45,7 @@ fn tagged(
         return tag;
     }
     let s = or::sides_of(tag, a, b);
-    let m = take(lent, words, row, s.part, left, 0, at);
+    let m = take(words, lent, s.part, row, left, 0, at);
     if BIG <= m {
         return m;
     }
@@ -54,11 +54,11 @@ fn tagged(
 
 // cons: both parts
 fn both(
-    lent: &&[u64],
     words: &&[u64],
-    row: &&[u64],
+    lent: &&[u64],
     a: usize,
     b: usize,
+    row: &&[u64],
     left: usize,
     off: u64,
     at: &mut usize,
@@ -68,11 +68,11 @@ fn both(
     ensures { λ r. ⌜ TakenBy consKind (now (now (lent .entry))) (now (now (words .entry))) a b left off
         (now (now (row .entry))) (now (at .entry)) (now (at .exit)) r ⌝ }
 {
-    let x = take(lent, words, row, a, left, off, at);
+    let x = take(words, lent, a, row, left, off, at);
     if BIG < x {
         return x;
     }
-    let y = take(lent, words, row, b, left, 0, at);
+    let y = take(words, lent, b, row, left, 0, at);
     if BIG <= y {
         return y;
     }
@@ -84,11 +84,11 @@ fn both(
 
 // dep: the first part, and the second that its number chooses. That number is below 256, so never BIG.
 fn chosen(
-    lent: &&[u64],
     words: &&[u64],
-    row: &&[u64],
+    lent: &&[u64],
     a: usize,
     b: usize,
+    row: &&[u64],
     left: usize,
     off: u64,
     at: &mut usize,
@@ -98,26 +98,26 @@ fn chosen(
     ensures { λ r. ⌜ TakenBy depKind (now (now (lent .entry))) (now (now (words .entry))) a b left off
         (now (now (row .entry))) (now (at .entry)) (now (at .exit)) r ⌝ }
 {
-    let x = take(lent, words, row, a, left, off, at);
+    let x = take(words, lent, a, row, left, off, at);
     if BIG <= x {
         return x;
     }
     let pool = *words;
     let c = pool[b + x as usize] as usize;
-    let y = take(lent, words, row, c, left, 0, at);
+    let y = take(words, lent, c, row, left, 0, at);
     if BIG <= y {
         return y;
     }
-    dep::join(*lent, pool, a, b, x, y)
+    dep::join(pool, *lent, a, b, x, y)
 }
 
 // except: a part at another number than b. 15: "the case an except removed (met after its last cell)"
 fn without(
-    lent: &&[u64],
     words: &&[u64],
-    row: &&[u64],
+    lent: &&[u64],
     a: usize,
     b: u64,
+    row: &&[u64],
     left: usize,
     off: u64,
     at: &mut usize,
@@ -127,7 +127,7 @@ fn without(
     ensures { λ r. ⌜ TakenBy exceptKind (now (now (lent .entry))) (now (now (words .entry))) a b left off
         (now (now (row .entry))) (now (at .entry)) (now (at .exit)) r ⌝ }
 {
-    let m = take(lent, words, row, a, left, off, at);
+    let m = take(words, lent, a, row, left, off, at);
     if BIG <= m {
         return m;
     }
@@ -140,10 +140,10 @@ fn without(
 // "Reading walks the same nodes from cells": the walk calls itself on parts, and the depth left falls.
 // `off` is what the shifts above take off the first cell.
 pub fn take(
-    lent: &&[u64],
     words: &&[u64],
-    row: &&[u64],
+    lent: &&[u64],
     i: usize,
+    row: &&[u64],
     left: usize,
     off: u64,
     at: &mut usize,
@@ -164,13 +164,13 @@ pub fn take(
         kinds::BELOW => counted(a as u64, row, off, at),
         kinds::NATS => any(row, off, at),
         kinds::POOL => listed(words, a, b as usize, row, off, at),
-        kinds::SHIFT => take(lent, words, row, a, left - 1, off + b, at),
-        kinds::OR => tagged(lent, words, row, a, b as usize, left - 1, off, at),
-        kinds::CONS => both(lent, words, row, a, b as usize, left - 1, off, at),
-        kinds::DEP => chosen(lent, words, row, a, b as usize, left - 1, off, at),
-        kinds::EXCEPT => without(lent, words, row, a, b, left - 1, off, at),
-        kinds::FIX => take(lent, words, row, a, left - 1, off, at),
-        kinds::AGAIN => take(lent, words, row, a, left - 1, off, at),
+        kinds::SHIFT => take(words, lent, a, row, left - 1, off + b, at),
+        kinds::OR => tagged(words, lent, a, b as usize, row, left - 1, off, at),
+        kinds::CONS => both(words, lent, a, b as usize, row, left - 1, off, at),
+        kinds::DEP => chosen(words, lent, a, b as usize, row, left - 1, off, at),
+        kinds::EXCEPT => without(words, lent, a, b, row, left - 1, off, at),
+        kinds::FIX => take(words, lent, a, row, left - 1, off, at),
+        kinds::AGAIN => take(words, lent, a, row, left - 1, off, at),
         // Not reached: a checked plan has no other kind.
         _ => UNFIT,
     }

@@ -87,7 +87,7 @@ fn seconds(pool: &[u64], plan: &[u64], n: usize, at: usize, count: usize) -> Wei
 }
 
 // "Seconds finite: all pairs of first 0, then of first 1, and so on."
-fn in_turn(plan: &[u64], pool: &[u64], at: usize, count: usize, n: u64) -> Pair
+fn in_turn(pool: &[u64], plan: &[u64], at: usize, count: usize, n: u64) -> Pair
     requires { ⌜ at + count ≤ length (now pool) ⌝ }
     requires { ⌜ ((i : ℕ) → i < count → 4 * getD (now pool) (at + i) 0 + 3 < length (now plan)) ⌝ }
     requires { ⌜ ((i : ℕ) → i < count → getD (now plan) (4 * getD (now pool) (at + i) 0 + 3) 0 < 2 ^ 63) ⌝ }
@@ -112,27 +112,27 @@ fn in_turn(plan: &[u64], pool: &[u64], at: usize, count: usize, n: u64) -> Pair
 }
 
 // The two parts' numbers, by the seconds' sizes: "Seconds endless: first n mod m, second n div m."
-fn parts(plan: &[u64], pool: &[u64], a: usize, b: usize, n: u64) -> Pair
+fn parts(pool: &[u64], plan: &[u64], a: usize, b: usize, n: u64) -> Pair
     requires { ⌜ DepIn (now plan) (now pool) a b ⌝ }
     ensures { λ r. ⌜ r ≡ Dep.split (secondsOf (sizeIn (now (plan .entry))) (take (firsts (now (plan .entry)) a) (drop b (now (pool .entry))))) n ⌝ }
 {
     let m = plan[4 * a + 3];
     let c = pool[b] as usize;
     if plan[4 * c + 3] < ENDLESS {
-        return in_turn(plan, pool, b, m as usize, n);
+        return in_turn(pool, plan, b, m as usize, n);
     }
     numbers::dep::split_endless(m, n)
 }
 
 // A visit at n: the first part, and the second that its number chooses.
-pub fn step(plan: &[u64], pool: &[u64], a: usize, b: usize, n: u64) -> Two
+pub fn step(pool: &[u64], plan: &[u64], a: usize, b: usize, n: u64) -> Two
     requires { ⌜ DepIn (now plan) (now pool) a b × (length (now pool) ≤ 4096) ⌝ }
     requires { ⌜ Dep.split (secondsOf (sizeIn (now plan)) (take (firsts (now plan) a) (drop b (now pool)))) n .first < firsts (now plan) a ⌝ }
     ensures { λ r. ⌜ ((s : Size) → depRule s (secondsOf (sizeIn (now (plan .entry))) (take (firsts (now (plan .entry)) a) (drop b (now (pool .entry)))))
         a (take (firsts (now (plan .entry)) a) (drop b (now (pool .entry)))) .items n
         ≡ part (r .first) (r .x) 0 ∷ part (r .second) (r .y) 0 ∷ []) ⌝ }
 {
-    let q = parts(plan, pool, a, b, n);
+    let q = parts(pool, plan, a, b, n);
     let x = q.first;
     Two {
         first: a,
@@ -143,7 +143,7 @@ pub fn step(plan: &[u64], pool: &[u64], a: usize, b: usize, n: u64) -> Two
 }
 
 // The sum of the sizes of a dep's seconds before the one at x.
-fn before(plan: &[u64], pool: &[u64], b: usize, x: usize) -> u64
+fn before(pool: &[u64], plan: &[u64], b: usize, x: usize) -> u64
     requires { ⌜ b + x ≤ length (now pool) ⌝ }
     requires { ⌜ ((j : ℕ) → j < x → 4 * getD (now pool) (b + j) 0 + 3 < length (now plan)) ⌝ }
     requires { ⌜ ((j : ℕ) → j < x → getD (now plan) (4 * getD (now pool) (b + j) 0 + 3) 0 < 2 ^ 63) ⌝ }
@@ -159,23 +159,23 @@ fn before(plan: &[u64], pool: &[u64], b: usize, x: usize) -> u64
 }
 
 // The number of a dep's case: x is the first part's number, y that of the second that it chooses.
-fn joined(plan: &[u64], pool: &[u64], a: usize, b: usize, x: u64, y: u64) -> Joined
+fn joined(pool: &[u64], plan: &[u64], a: usize, b: usize, x: u64, y: u64) -> Joined
     requires { ⌜ DepIn (now plan) (now pool) a b × (x < firsts (now plan) a) ⌝ }
     ensures { λ r. ⌜ r ≡ capped (Dep.join (secondsOf (sizeIn (now (plan .entry))) (take (firsts (now (plan .entry)) a) (drop b (now (pool .entry))))) x y) ⌝ }
 {
     let head = pool[b] as usize;
     if plan[4 * head + 3] < ENDLESS {
-        let sum = before(plan, pool, b, x as usize);
+        let sum = before(pool, plan, b, x as usize);
         return numbers::dep::join_finite(sum, y);
     }
     numbers::dep::join_endless(plan[4 * a + 3], x, y)
 }
 
-pub fn join(plan: &[u64], pool: &[u64], a: usize, b: usize, x: u64, y: u64) -> u64
+pub fn join(pool: &[u64], plan: &[u64], a: usize, b: usize, x: u64, y: u64) -> u64
     requires { ⌜ DepIn (now plan) (now pool) a b × (x < firsts (now plan) a) ⌝ }
     ensures { λ r. ⌜ r ≡ wordOf (capped (Dep.join (secondsOf (sizeIn (now (plan .entry))) (take (firsts (now (plan .entry)) a) (drop b (now (pool .entry))))) x y)) ⌝ }
 {
-    word(joined(plan, pool, a, b, x, y))
+    word(joined(pool, plan, a, b, x, y))
 }
 
 // "to a dep's first and each second"

@@ -7,10 +7,10 @@ use Rattle.grammar.proofs.kinds.dep.before.Statement.{statement}
 use Rattle.grammar.proofs.kinds.dep.before.Tie as tie
 
 abbrev Inv-loop : tie.InvT-loop
-Inv-loop plan pool b x sum₀ j₀ sum j = Summing plan pool b x sum j
+Inv-loop pool plan b x sum₀ j₀ sum j = Summing plan pool b x sum j
 
 abbrev μ-loop : tie.MeasureT-loop
-μ-loop plan pool b x sum₀ j₀ sum j = x - j
+μ-loop pool plan b x sum₀ j₀ sum j = x - j
 
 pub before-spec : {M : Type 1} → statement M
 before-spec =

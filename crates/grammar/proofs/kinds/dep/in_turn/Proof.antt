@@ -7,10 +7,10 @@ use Rattle.grammar.proofs.kinds.dep.in_turn.Statement.{statement}
 use Rattle.grammar.proofs.kinds.dep.in_turn.Tie as tie
 
 abbrev Inv-loop : tie.InvT-loop
-Inv-loop plan pool at count n rest₀ k₀ rest k = Turning plan pool at count n rest k
+Inv-loop pool plan at count n rest₀ k₀ rest k = Turning plan pool at count n rest k
 
 abbrev μ-loop : tie.MeasureT-loop
-μ-loop plan pool at count n rest₀ k₀ rest k = count - k
+μ-loop pool plan at count n rest₀ k₀ rest k = count - k
 
 pub in-turn-spec : {M : Type 1} → statement M
 in-turn-spec =
