@@ -19,15 +19,15 @@ use Rattle.grammar.specs.declared.refusal.Refusal.{Refusal}
 use Rattle.grammar.specs.declared.refusal.Verdict.{Verdict}
 use Rattle.grammar.specs.Sizes.{rulesOf}
 use Rattle.walk.specs.Walk.{walk, cells, depth}
-use Rattle.walk.specs.Filled.{over}
-use Rattle.walk.proofs.Fills.{over-back, part-old}
+use Rattle.lists.specs.Filled.{over}
+use Rattle.lists.proofs.Fills.{over-back, part-old}
 use Rattle.lines.specs.Ascii.{bytes}
 use Rattle.cases.specs.Write.{writes, leaves, Wrote}
 use Rattle.cases.specs.Read.{reads}
 use Rattle.cases.specs.declared.reading.Found.{Found}
 use Rattle.cases.specs.declared.writing.Written.{Written}
 use Rattle.cases.specs.declared.writing.Written.the-variants.{Done, Refused}
-use Rattle.cases.proofs.Outcomes.{written-size, written-cells}
+use Rattle.cases.proofs.Counted.{written-size, written-cells}
 use Rattle.rows.specs.Row as Row
 use Rattle.rows.specs.WriteRow.{rowOf, writesRow, WroteRow}
 use Rattle.rows.specs.ReadRow.{gather, gotten, readsRow, GotRow}
@@ -37,7 +37,7 @@ use Rattle.rows.specs.declared.answer.Row.the-variants.{Done as DoneRow, Refuse
 use Rattle.rows.specs.declared.reader.Next.{Next}
 use Rattle.rows.specs.declared.reader.Next.the-variants.{Item, End, Refused as NoNext}
 use Rattle.rows.specs.declared.reader.Stride.{Stride}
-use Rattle.rows.proofs.Outcomes.{row-size, row-cells, got-size, got-numbers, next-moves}
+use Rattle.rows.proofs.CountedRows.{row-size, row-cells, got-size, got-numbers, next-moves}
 use Rattle.pages.specs.Buffer.{startWords}
 use Rattle.pages.specs.Page.{Puts}
 use Rattle.pages.specs.Texts.{unreadableText, itemText, refusedText, refusedLine, refusedItem, itemsText, cellsText, endText}

@@ -36,7 +36,7 @@ use Rattle.cases.specs.declared.writing.Written.the-variants.{Done}
 use Rattle.cases.proofs.Meaning.{accepted-checked}
 use Rattle.checked.specs.Fits.{Asked}
 use Rattle.checked.proofs.Fitted.{cells-map}
-use Rattle.cases.proofs.Doors.{reads-is, left-over, found-number, number-found, writes-is, writes-done}
+use Rattle.cases.proofs.WalkAnswers.{reads-is, left-over, found-number, number-found, writes-is, writes-done}
 use Rattle.walk.proofs.Ends.{deeper-cells}
 
 module _ (t p : List ℕ) (a : verdict t p ≡ Accepted) (i : ℕ) (l : i < nodes t) where

@@ -10,7 +10,7 @@ use Prim.Native.Nat.{ℕ, zero, suc, _+_, _≤_, _<_}
 use native.Mathlib.Nat.{not-suc-le-zero, le-refl}
 use native.Mathlib.Omega.{arith}
 use Rattle.numbers.specs.Pick.{pick}
-use Rattle.graph.proofs.Marks.{same?}
+use Rattle.lists.proofs.Order.{same?}
 
 unfoldable pub many : (ℕ → Bool) → ℕ → ℕ
 many f zero = 0

@@ -2,8 +2,8 @@
 pub mod Values
 pub mod Calls
 pub mod Meaning
-pub mod Outcomes
-pub mod Doors
+pub mod Counted
+pub mod WalkAnswers
 pub mod BothSides
 pub mod Counts
 pub mod Ranks

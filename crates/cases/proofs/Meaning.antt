@@ -17,7 +17,7 @@ use borrow.Author.Tests.{lt-ltb, eqb-true, leb-true}
 use Rattle.numbers.specs.Size.{Size, finite}
 use Rattle.graph.specs.Paths.{Decides}
 use Rattle.graph.specs.Lowest.{Lowest}
-use Rattle.graph.proofs.Marks.{le-or-lt}
+use Rattle.lists.proofs.Order.{le-or-lt}
 use Rattle.graph.proofs.Lowest.{lowest-256}
 use Rattle.graph.proofs.Ways.{via-decide}
 use Rattle.grammar.specs.Table.{nodes, lengths}

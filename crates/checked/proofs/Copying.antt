@@ -9,8 +9,8 @@ use native.Mathlib.Nat.{not-suc-le-zero, le-of-suc-le-suc}
 use native.Mathlib.Numerals.{add-one}
 use native.Mathlib.Omega.{arith}
 use lib.ListN.{length, getD, take, set}
-use Rattle.walk.specs.Filled.{over}
-use Rattle.walk.proofs.Fills.{length-over, over-front}
+use Rattle.lists.specs.Filled.{over}
+use Rattle.lists.proofs.Fills.{length-over, over-front}
 use Rattle.checked.specs.Kept.{Kept}
 
 pub record Copied (from old : List ℕ) (count : ℕ) (now : List ℕ) (i : ℕ) : Type 0 where
@@ -40,10 +40,6 @@ copied-more {from} {old} {now} {count} {i} c l m k = record {
 
 pub copied-all : {from old now : List ℕ} {count i : ℕ} → Copied from old count now i → count ≤ i → now ≡ over (take count from) old
 copied-all {count = count} {i = i} c l = let e : i ≡ count = omega (arith, c .le) in rw e at (c .is)
-
--- a buffer keeps its length
-pub over-long : (new old : List ℕ) {last : List ℕ} → last ≡ over new old → length last ≡ length old
-over-long new old e = ap length e ∙ length-over new old
 
 -- ---- numbers that were all kept
 module _ {cs kept : List ℕ} {count room : ℕ} (k : Kept cs kept count room) (l : count ≤ length kept) where

@@ -16,7 +16,7 @@ use lib.Dec.{ltb}
 use lib.ListN.{length, getD, take, drop, length-take, length-drop, length-append, take-append-drop}
 use borrow.Author.Tests.{lt-ltb, le-ltb, ltb-true, ne-eqb}
 use Rattle.numbers.specs.Size.{Size, finite, endless, sizeOf, below, Below}
-use Rattle.numbers.proofs.size.Laws.{by-size}
+use Rattle.numbers.proofs.size.SizeWords.{by-size}
 use Rattle.grammar.specs.declared.refusal.Refusal.the-variants.{NoSuchNumber, TooDeep, NoRoom}
 use Rattle.numbers.proofs.Tests.{and-left, and-right}
 use Rattle.grammar.specs.Plan.{ruleIn}
@@ -24,7 +24,7 @@ use Rattle.walk.specs.Walk.{walk, cells, depth}
 use Rattle.walk.specs.Room.{RoomLeft, Left, tallied}
 use Rattle.walk.specs.Room.{TooDeep as Deep, NoRoom as Full}
 use Rattle.walk.specs.Laid.{leftOf, Laid}
-use Rattle.walk.specs.Filled.{over}
+use Rattle.lists.specs.Filled.{over}
 use Rattle.walk.proofs.Rooms.{word-left, tally-count}
 use Rattle.walk.specs.Plan.{Visits}
 use Rattle.walk.specs.Plan.{Reading}

@@ -20,7 +20,7 @@ use Rattle.checked.specs.declared.fits.Fit.{Fit}
 use Rattle.checked.specs.declared.fits.Fit.the-variants.{Cells, Not}
 use Rattle.checked.proofs.Fitted.{fitted-is}
 use Rattle.checked.proofs.Fitting.{was-asked}
-use Rattle.checked.proofs.Copying.{over-long}
+use Rattle.lists.proofs.Fills.{over-long}
 
 -- a number that may be refused by 12 alone, since 13 and 14 are decided before anything is written
 abbrev Settled : (ℕ → Rule) → ℕ → ℕ → ℕ → Type 0

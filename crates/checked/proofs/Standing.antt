@@ -15,7 +15,7 @@ use lib.Dec.{leb}
 use lib.ListN.{length, take, drop, length-append, length-take, length-drop, length-map, drop-of-length-le}
 use lib.Seq.{drop-cons, drop-drop, take-all, take-length}
 use borrow.Author.Tests.{lt-ltb, le-ltb}
-use Rattle.graph.proofs.Marks.{le-or-lt}
+use Rattle.lists.proofs.Order.{le-or-lt}
 use Rattle.grammar.specs.declared.refusal.Refusal.{Refusal}
 use Rattle.grammar.specs.declared.refusal.Refusal.the-variants.{NotACase, NumberTooLarge}
 use Rattle.grammar.specs.Plan.{sizeIn, ruleIn}

@@ -9,7 +9,7 @@ use Prim.Native.Nat.{ℕ, _+_, _*_, _≤_, _<_}
 use native.Mathlib.Omega.{arith}
 use lib.ListN.{getD, List·getD-eq-default}
 use Rattle.numbers.specs.Size.{Size, Some}
-use Rattle.graph.proofs.Marks.{le-or-lt}
+use Rattle.lists.proofs.Order.{le-or-lt}
 use Rattle.grammar.specs.Table.{kindOf, aOf, bOf, nodes}
 use Rattle.grammar.specs.Kind.{Node, before}
 use Rattle.grammar.specs.Law.{Holds, Good}

@@ -17,7 +17,7 @@ use Rattle.numbers.specs.Size.{Size, below, Below}
 use Rattle.grammar.specs.declared.refusal.Refusal.the-variants.{NoSuchNumber, TooDeep, NoRoom}
 use Rattle.grammar.specs.Rule.{Rule}
 use Rattle.walk.specs.Walk.{walk, cells, depth}
-use Rattle.walk.specs.Filled.{over}
+use Rattle.lists.specs.Filled.{over}
 use Rattle.walk.specs.Room.{RoomLeft, Left, tallied, most}
 use Rattle.walk.specs.Room.{TooDeep as Deep, NoRoom as Full}
 use Rattle.checked.specs.declared.fits.Fit.{Fit}

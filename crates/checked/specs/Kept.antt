@@ -5,7 +5,7 @@ use mathlib.Core.Path.{_≡_}
 use mathlib.Core.List.{List}
 use Prim.Native.Nat.{ℕ, _≤_}
 use lib.ListN.{length}
-use Rattle.walk.specs.Filled.{over}
+use Rattle.lists.specs.Filled.{over}
 
 pub record Kept (ns kept : List ℕ) (count room : ℕ) : Type 0 where
   pub old : List ℕ

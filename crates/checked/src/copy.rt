@@ -2,7 +2,7 @@
 ghost use mathlib.Core.Path.{_≡_};
 ghost use Prim.Native.Nat.{_≤_};
 ghost use lib.ListN.{length, take};
-ghost use Rattle.walk.specs.Filled.{over};
+ghost use Rattle.lists.specs.Filled.{over};
 
 // The first `count` words of one buffer over the front of another.
 pub fn copy(from: &[u64], count: usize, to: &mut [u64])

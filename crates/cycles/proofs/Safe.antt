@@ -20,12 +20,11 @@ use Rattle.numbers.specs.Pick.{pick}
 use Rattle.graph.proofs.Marks.{set-only}
 use Rattle.graph.proofs.Paths.{to-no-cycle}
 use Rattle.grammar.specs.Table.{nodes}
-use Rattle.grammar.specs.Checks.{every}
+use Rattle.lists.specs.Lists.{every}
 use Rattle.grammar.specs.Steps.{stepsOf, Step, Unguarded}
 use Rattle.grammar.specs.Plan.{sizeIn, Ready}
-use Rattle.grammar.proofs.Runs.{Upto, run-every, run-fails}
+use Rattle.lists.proofs.Runs.{Upto, run-every, run-fails, every-mem}
 use Rattle.cycles.specs.Safe.{isMarked, Safe, SafeMarks, SafePass}
-use Rattle.cycles.proofs.Steps.{every-mem}
 use Rattle.cycles.proofs.Table.{cycle-in}
 
 -- ---- one mark

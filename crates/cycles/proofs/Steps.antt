@@ -1,14 +1,13 @@
 -- Where the steps of a checked table lead, and what the code has of the nodes that a node names.
 --   step-to      to a node of the table
 --   step-down    to a lower node, but for that of an again
---   every-mem    a member of a list that a test passes everywhere
 --   one-in, two-in, run-in   the nodes named are in the table; one-few, two-few, run-few   and below 256
 --   marks-named, asks-first, asks-second, asks-others   marks and tests of the nodes named, one after the other
 -- Assumes nothing.
 use mathlib.Core.Path.{_≡_, refl, sym, subst, ap, _∙_}
 use mathlib.Core.Bool.{Bool, true, false, _&&_}
 use mathlib.Core.Logic.{⊎-elim}
-use mathlib.Core.List.{List, [], _∷_, _++_, List·Memᴰ, List·Memᴰ·head, List·Memᴰ·tail, List·Memᴰ·cases-cons, List·Memᴰ·not-nil}
+use mathlib.Core.List.{List, [], _∷_, _++_, List·Memᴰ, List·Memᴰ·head, List·Memᴰ·tail, List·Memᴰ·not-nil}
 use Prim.Native.Nat.{ℕ, zero, suc, _+_, _≤_, _<_}
 use native.Mathlib.Nat.{not-suc-le-zero, le-of-suc-le-suc}
 use native.Mathlib.Omega.{arith}
@@ -16,9 +15,10 @@ use lib.ListN.{length, getD, take, drop, List·getD-eq-default}
 use Rattle.numbers.specs.Pick.{pick}
 use Rattle.numbers.specs.Size.{Size}
 use Rattle.graph.specs.Marks.{marked}
-use Rattle.graph.proofs.Marks.{le-or-lt, marked-append}
+use Rattle.graph.proofs.Marks.{marked-append}
+use Rattle.lists.proofs.Order.{le-or-lt}
 use Rattle.grammar.specs.Table.{kindOf, nodes}
-use Rattle.grammar.specs.Checks.{every}
+use Rattle.lists.specs.Lists.{every}
 use Rattle.grammar.specs.Law.{Under}
 use Rattle.grammar.specs.Steps.{stepsOf, Step}
 use Rattle.grammar.specs.Checked.{Checked}
@@ -26,17 +26,10 @@ use Rattle.grammar.specs.Plan.{sizeIn, Ready}
 use Rattle.grammar.specs.kinds.Below.{belowRule}
 use Rattle.grammar.specs.Named.{named, Names}
 use Rattle.grammar.specs.declared.named.Named.{Named}
-use Rattle.numbers.proofs.Tests.{and-left, and-right}
-use Rattle.grammar.proofs.Runs.{run-long, run-at}
+use Rattle.lists.proofs.Runs.{run-long, run-at}
 use Rattle.grammar.proofs.Stepping.{under-mem}
 use Rattle.grammar.proofs.Checked.{step-lower}
 use Rattle.planning.proofs.KindSteps.{steps-by}
-
-pub every-mem : (test : ℕ → Bool) (m : ℕ) (xs : List ℕ) → every test xs ≡ true → List·Memᴰ m xs → test m ≡ true
-unfolding every
-every-mem test m [] e i = absurd (List·Memᴰ·not-nil i)
-every-mem test m (x ∷ xs) e i =
-    ⊎-elim (λ q. rw q (and-left (test x) (every test xs) e)) (λ j. every-mem test m xs (and-right (test x) (every test xs) e) j) (List·Memᴰ·cases-cons i)
 
 -- ---- steps
 module _ {t p : List ℕ} {z : ℕ → Size} (c : Checked t p z) (n m : ℕ) where

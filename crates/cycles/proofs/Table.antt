@@ -19,7 +19,8 @@ use Rattle.numbers.specs.Pick.{pick}
 use Rattle.graph.specs.Paths.{Decides}
 use Rattle.graph.specs.Lowest.{Lowest}
 use Rattle.graph.specs.Marks.{marked}
-use Rattle.graph.proofs.Marks.{same?, zeros, zeros-set}
+use Rattle.graph.proofs.Marks.{zeros, zeros-set}
+use Rattle.lists.proofs.Order.{same?}
 use Rattle.graph.proofs.Paths.{carry-from, lowest-on}
 use Rattle.graph.proofs.Search.{Searching, Finite, search-start, search-skip, search-open, search-end}
 use Rattle.graph.proofs.Ways.{via-decide}

@@ -6,7 +6,7 @@ ghost use Prim.Native.Nat.{ℕ, _+_, _<_, _≤_};
 ghost use lib.ListN.{length, getD, take, drop};
 ghost use Rattle.numbers.specs.Pick.{pick};
 ghost use Rattle.grammar.specs.Table.{nodes};
-ghost use Rattle.grammar.specs.Checks.{every};
+ghost use Rattle.lists.specs.Lists.{every};
 ghost use Rattle.grammar.specs.Steps.{stepsOf, Unguarded};
 ghost use Rattle.grammar.specs.Plan.{sizeIn, Ready};
 ghost use Rattle.cycles.specs.Safe.{isMarked, SafeMarks, SafePass};

@@ -20,7 +20,7 @@ use lib.ListN.{length, length-append}
 use borrow.Author.Tests.{ltb-true}
 use Rattle.numbers.specs.Pick.{pick}
 use Rattle.numbers.specs.Size.{Size, finite, endless}
-use Rattle.graph.proofs.Marks.{same?}
+use Rattle.lists.proofs.Order.{same?}
 use Rattle.grammar.specs.Table.{kindOf, aOf, bOf, nodes}
 use Rattle.grammar.specs.Checks.{Check, asks, Row, fault, sized, row}
 use Rattle.grammar.specs.Law.{Fit, Holds, Under, Good}

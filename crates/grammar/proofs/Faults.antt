@@ -17,7 +17,7 @@ use lib.Seq.{take-suc, getD-take, take-all}
 use borrow.Author.Tests.{leb-true}
 use Rattle.numbers.specs.Size.{Size, finite}
 use Rattle.numbers.proofs.Tests.{and-left, and-right}
-use Rattle.graph.proofs.Marks.{same?}
+use Rattle.lists.proofs.Order.{same?}
 use Rattle.grammar.specs.Table.{kindOf, aOf, bOf, nodes}
 use Rattle.grammar.specs.Checks.{Check, asks, Row, fault, sized, row}
 use Rattle.grammar.specs.Refusals.{numberOf}

@@ -14,10 +14,11 @@ use lib.Seq.{drop-cons, take-take}
 use Rattle.numbers.specs.Size.{Size}
 use Rattle.numbers.specs.Dep.{endlesses, total}
 use Rattle.numbers.specs.Dep
-use Rattle.numbers.proofs.size.Laws.{sized-finite}
+use Rattle.numbers.proofs.size.SizeWords.{sized-finite}
 use Rattle.grammar.specs.Plan.{sizeIn}
-use Rattle.grammar.proofs.Runs.{run-long, run-at, wordAt}
-use Rattle.grammar.proofs.Turns.{not-endless}
+use Rattle.grammar.proofs.Runs.{wordAt}
+use Rattle.lists.proofs.Runs.{run-long, run-at}
+use Rattle.grammar.proofs.SecondsInTurn.{not-endless}
 use Rattle.grammar.specs.kinds.Dep.{counts, secondsOf}
 use Rattle.grammar.specs.Seconds.{firsts, headSize, DepIn}
 

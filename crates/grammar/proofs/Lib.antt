@@ -11,7 +11,7 @@ pub mod laws
 pub mod Sizes
 pub mod Checked
 pub mod Faults
-pub mod Turns
+pub mod SecondsInTurn
 pub mod Joins
 pub mod Places
 pub mod Known

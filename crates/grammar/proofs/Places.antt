@@ -9,11 +9,11 @@ use native.Mathlib.Omega.{arith}
 use lib.ListN.{length, getD, take, drop, drop-of-length-le}
 use lib.Seq.{drop-cons}
 use borrow.Author.Tests.{eq-eqb, ne-eqb}
-use Rattle.graph.specs.Ways.{has}
+use Rattle.lists.specs.Lists.{has}
 use Rattle.grammar.specs.kinds.Pool.{placeOf}
 use Rattle.grammar.specs.Placed.{placed}
 use Rattle.grammar.specs.declared.kinds.Place.the-variants.{At, Nowhere}
-use Rattle.grammar.proofs.Runs.{run-long, run-at}
+use Rattle.lists.proofs.Runs.{run-long, run-at}
 
 pub record Placing (p : List ℕ) (at count c k : ℕ) : Type 0 where
   pub le : k ≤ count

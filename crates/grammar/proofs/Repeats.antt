@@ -13,9 +13,9 @@ use borrow.Author.Tests.{eq-eqb, ne-eqb}
 use lib.Dec.{eqb}
 use lib.ListN.{length, getD, take, drop, drop-of-length-le}
 use lib.Seq.{drop-cons, drop-drop, take-nil}
-use Rattle.graph.specs.Ways.{has}
+use Rattle.lists.specs.Lists.{has}
 use Rattle.grammar.specs.Checks.{different}
-use Rattle.grammar.proofs.Runs.{run-long, run-at}
+use Rattle.lists.proofs.Runs.{run-long, run-at}
 
 -- x is among the words before i, as `seen` says, or from i up to `to`
 pub record Among (p : List ℕ) (from to x : ℕ) (seen : Bool) (i : ℕ) : Type 0 where

@@ -13,7 +13,8 @@ use Rattle.numbers.specs.Pick.{pick}
 use Rattle.numbers.specs.Size.{Size, finite, endless, plus}
 use Rattle.numbers.specs.Dep.{finites, endlesses, firsts, second}
 use Rattle.numbers.specs.Dep
-use Rattle.grammar.specs.Checks.{count, every, isEndless, allFinite, allEndless, total}
+use Rattle.grammar.specs.Checks.{count, isEndless, allFinite, allEndless, total}
+use Rattle.lists.specs.Lists.{every}
 use Rattle.numbers.proofs.Tests.{and-left, and-right}
 use Rattle.grammar.proofs.Tests.{is-endless}
 use Rattle.grammar.specs.kinds.Dep.{counts, secondsOf}

@@ -18,8 +18,9 @@ use Rattle.numbers.specs.Size.{Size, finite, endless, plus, measured}
 use Rattle.numbers.specs.Pick.{pick}
 use Rattle.numbers.specs.declared.size.Measured.{Measured}
 use Rattle.numbers.specs.declared.size.Measured.the-variants.{Of, Past}
-use Rattle.numbers.proofs.size.Laws.{sized-finite, sized-endless}
-use Rattle.grammar.specs.Checks.{every, isEndless, allLower, allEndless, allFinite, fits, total, row, asks}
+use Rattle.numbers.proofs.size.SizeWords.{sized-finite, sized-endless}
+use Rattle.grammar.specs.Checks.{isEndless, allLower, allEndless, allFinite, fits, total, row, asks}
+use Rattle.lists.specs.Lists.{every}
 use Rattle.grammar.specs.Kind.{before}
 use Rattle.grammar.specs.kinds.Dep.{secondsRow}
 use Rattle.grammar.specs.Plan.{sizeIn, coded, weighedOf}
@@ -27,7 +28,8 @@ use Rattle.grammar.specs.declared.refusal.Refusal.the-variants.{Referenc
 use Rattle.grammar.specs.declared.kinds.Weighed.{Weighed}
 use Rattle.grammar.specs.declared.kinds.Weighed.the-variants.{Fault, Of as Weighs}
 use Rattle.numbers.proofs.Tests.{and-left}
-use Rattle.grammar.proofs.Runs.{wordAt, run-long, lower-not}
+use Rattle.grammar.proofs.Runs.{wordAt, lower-not}
+use Rattle.lists.proofs.Runs.{run-long}
 
 -- a size that is measured, and the last check of a row
 pub measured-row : (s : Size) → weighedOf (measured s) ≡ coded (row (asks (fits s) TooLarge ∷ []) s)

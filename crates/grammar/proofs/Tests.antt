@@ -10,7 +10,7 @@ use native.Mathlib.Omega.{arith}
 use lib.Dec.{leb}
 use borrow.Author.Tests.{lt-ltb, le-ltb, le-leb, lt-leb, eq-eqb, ne-eqb}
 use Rattle.numbers.specs.Size.{Size, finite, endless, sizeOf}
-use Rattle.numbers.proofs.size.Laws.{sized-finite, sized-endless}
+use Rattle.numbers.proofs.size.SizeWords.{sized-finite, sized-endless}
 use Rattle.grammar.specs.Checks.{isEndless}
 
 -- a sum and its bound, tested by a difference

@@ -12,7 +12,7 @@ use lib.Dec.{eqb}
 use lib.ListN.{length, getD}
 use borrow.Author.Tests.{eqb-true, eq-eqb, ne-eqb, not-true}
 use Rattle.numbers.specs.Pick.{pick}
-use Rattle.graph.specs.Ways.{has}
+use Rattle.lists.specs.Lists.{has}
 use Rattle.grammar.specs.Checks.{different}
 use Rattle.numbers.proofs.Tests.{and-left, and-right, or-right}
 use Rattle.grammar.specs.kinds.Pool.{placeOf}

@@ -16,9 +16,9 @@ pub mod Fix
 pub mod Again
 use mathlib.Core.Path.{refl}
 use mathlib.Core.Bool.{false≢true}
-use Rattle.graph.specs.Ways.{has}
+use Rattle.lists.specs.Lists.{has, every}
 use Rattle.grammar.specs.Refusals.{numberOf}
-use Rattle.grammar.specs.Checks.{different, every, total}
+use Rattle.grammar.specs.Checks.{different, total}
 use Rattle.grammar.specs.kinds.{kinds, unknown}
 use Rattle.grammar.specs.kinds.Below.{belowRule}
 use Rattle.grammar.specs.kinds.Nats.{natsRule}

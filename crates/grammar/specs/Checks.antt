@@ -1,6 +1,6 @@
 -- What 01's rows are made of: checks in their order, each with its refusal, and then a size.
 --   Check, Row, row       the first check that fails, or the size
---   within, different, every   tests of words
+--   within, different   tests of words
 --   fits, isEndless, isOne, few, count   tests of sizes
 --   seconds, total, allLower, allFinite, allEndless   of a dep's seconds; z has the nodes' sizes
 -- Assumes nothing.
@@ -10,7 +10,7 @@ use Prim.Native.Nat.{ℕ, _+_, _^_}
 use lib.Dec.{eqb, ltb, leb}
 use lib.ListN.{length, take, drop}
 use Rattle.numbers.specs.Size.{Size, finite, endless, plus}
-use Rattle.graph.specs.Ways.{has}
+use Rattle.lists.specs.Lists.{has, every}
 use Rattle.grammar.specs.declared.refusal.Refusal.{Refusal}
 
 pub data Check : Type 0 where
@@ -34,10 +34,6 @@ within a b p = leb (a + b) (length p)
 unfoldable pub different : List ℕ → Bool
 different [] = true
 different (x ∷ xs) = not (has x xs) && different xs
-
-unfoldable pub every : (ℕ → Bool) → List ℕ → Bool
-every test [] = true
-every test (x ∷ xs) = test x && every test xs
 
 -- ---- sizes
 -- "a whole number up to 2^62, or endless"

@@ -6,7 +6,7 @@ use mathlib.Core.List.{List}
 use Prim.Native.Nat.{ℕ}
 use lib.Dec.{ltb}
 use Rattle.numbers.specs.Pick.{pick}
-use Rattle.graph.specs.Ways.{has}
+use Rattle.lists.specs.Lists.{has}
 use Rattle.grammar.specs.kinds.Pool.{placeOf}
 use Rattle.grammar.specs.declared.kinds.Place.{Place}
 use Rattle.grammar.specs.declared.kinds.Place.the-variants.{At, Nowhere}

@@ -2,7 +2,7 @@
 ghost use mathlib.Core.Path.{_≡_};
 ghost use Prim.Native.Nat.{_+_, _-_, _≤_};
 ghost use lib.ListN.{length, take, drop};
-ghost use Rattle.graph.specs.Ways.{has};
+ghost use Rattle.lists.specs.Lists.{has};
 ghost use Rattle.grammar.specs.Checks.{different};
 
 // Whether x is among the words from `from` up to `to`.

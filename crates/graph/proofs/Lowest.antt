@@ -15,7 +15,7 @@ use borrow.Author.Tests.{ltb-true, ltb-false}
 use Rattle.numbers.proofs.Tests.{pick-by}
 use Rattle.graph.specs.Paths.{Decides}
 use Rattle.graph.specs.Lowest.{Lowest, earlier, lowest}
-use Rattle.graph.proofs.Marks.{same?, le-or-lt}
+use Rattle.lists.proofs.Order.{same?, le-or-lt}
 
 record Low (P : ℕ → Type 0) (n m : ℕ) : Type 0 where
   within : m ≤ 256

@@ -3,24 +3,14 @@
 use mathlib.Core.Path.{_≡_, refl, ap, _∙_}
 use mathlib.Core.Logic.{_⊎_, inl, inr, ⊎-elim}
 use mathlib.Core.List.{List, [], _∷_, _++_, List·Memᴰ, List·Memᴰ·head, List·Memᴰ·tail}
-use Prim.Native.Nat.{ℕ, zero, suc, _+_, _≤_, _<_, zero-le, suc-le-suc}
+use Prim.Native.Nat.{ℕ, zero, suc, _+_, _≤_, _<_, zero-le}
 use native.Mathlib.Nat.{le-of-suc-le-suc, not-suc-le-zero, suc-ne-zero}
-use native.Mathlib.Decide.{ℕ-discrete}
 use native.Mathlib.Numerals.{add-one}
 use native.Mathlib.Omega.{arith}
 use lib.ListN.{length, getD, take, drop, set, replicate, length-set, length-drop}
 use lib.Seq.{getD-set-same, getD-set-other, take-suc, getD-drop}
 use Rattle.graph.specs.Marks.{marked}
-
--- k is x, or it is not
-pub same? : (k x : ℕ) → (k ≡ x) ⊎ (k ≡ x → ⊥)
-same? k x = elim (ℕ-discrete k x) [ yes e ↦ inl e | no f ↦ inr f ]
-
--- k is at most n, or above it
-pub le-or-lt : (k n : ℕ) → (k ≤ n) ⊎ (n < k)
-le-or-lt zero n = inl zero-le
-le-or-lt (suc k) zero = inr (suc-le-suc zero-le)
-le-or-lt (suc k) (suc n) = ⊎-elim (λ l. inl (suc-le-suc l)) (λ l. inr (suc-le-suc l)) (le-or-lt k n)
+use Rattle.lists.proofs.Order.{same?}
 
 -- one mark
 pub set-keeps : (m : List ℕ) (x k : ℕ) → 1 ≤ getD m k 0 → 1 ≤ getD (set m x 1) k 0

@@ -10,7 +10,8 @@ use lib.ListN.{length, getD, set, length-set}
 use Rattle.graph.specs.Paths.{Path}
 use Rattle.graph.specs.Paths.Path.{one}
 use Rattle.graph.specs.Marks.{marked, Marks}
-use Rattle.graph.proofs.Marks.{same?, set-keeps, set-hits, set-only, marked-length, marked-keeps, marked-hits, marked-only}
+use Rattle.graph.proofs.Marks.{set-keeps, set-hits, set-only, marked-length, marked-keeps, marked-hits, marked-only}
+use Rattle.lists.proofs.Order.{same?}
 use Rattle.graph.proofs.Paths.{snoc, carry-from}
 
 -- what holds at the head of the loop

@@ -12,9 +12,10 @@ use borrow.Author.Tests.{eqb-true, eq-eqb}
 use Rattle.numbers.proofs.Tests.{and-left, and-right, or-left, or-right, or-true}
 use Rattle.graph.specs.Paths.{Path, Decides}
 use Rattle.graph.specs.Paths.Path.{one, more}
-use Rattle.graph.proofs.Marks.{same?}
+use Rattle.lists.proofs.Order.{same?}
 use Rattle.graph.proofs.Search.{Finite}
-use Rattle.graph.specs.Ways.{has, via}
+use Rattle.graph.specs.Ways.{via}
+use Rattle.lists.specs.Lists.{has}
 
 -- Tests and lists
 has-mem : (b : ℕ) (xs : List ℕ) → has b xs ≡ true → List·Memᴰ b xs

@@ -11,10 +11,10 @@ use Prim.Native.Nat.{ℕ, _-_, _^_, _≤_, _<_, min}
 use native.Mathlib.Omega.{arith}
 use lib.ListN.{length, take, drop, set, length-set, length-append, length-take, length-drop}
 use Rattle.walk.specs.Walk.{Event, cell, cells}
-use Rattle.walk.specs.Filled.{over}
+use Rattle.lists.specs.Filled.{over}
 use Rattle.walk.specs.Laid.{leftOf, Laid}
 use Rattle.walk.specs.Room.{RoomLeft, Left, TooDeep, NoRoom, tallied, most}
-use Rattle.walk.proofs.Fills.{part-old, part-rest, then}
+use Rattle.lists.proofs.Fills.{part-old, part-rest, then}
 use Rattle.walk.proofs.Rooms.{tallied-full, tallied-cell, cells-append, tally-count, word-left, word-stops, left-within, two-stops, two-left}
 
 -- ---- what is lent on

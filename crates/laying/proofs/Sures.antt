@@ -14,7 +14,7 @@ use native.Mathlib.Nat.{not-suc-le-zero, le-of-suc-le-suc}
 use native.Mathlib.Omega.{arith}
 use lib.ListN.{length, getD, set, replicate, length-set, List·getD-eq-default}
 use lib.Seq.{getD-set-same, getD-set-other}
-use Rattle.graph.proofs.Marks.{same?}
+use Rattle.lists.proofs.Order.{same?}
 use Rattle.numbers.specs.declared.or.Part.{Part}
 use Rattle.numbers.specs.declared.or.Part.the-variants.{First, Second}
 use Rattle.numbers.specs.declared.cons.Pair.{Pair}

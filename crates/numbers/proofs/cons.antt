@@ -1,3 +1,3 @@
 -- The laws of cons, and how the code tells its cases apart.
-pub mod Laws
+pub mod SplitJoin
 mod Arms

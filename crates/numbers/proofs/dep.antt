@@ -1,2 +1,2 @@
 -- The laws of dep.
-pub mod Laws
+pub mod SplitJoin

@@ -1,2 +1,2 @@
 -- The laws of except.
-pub mod Laws
+pub mod SplitJoin

@@ -1,2 +1,2 @@
 -- The law of a joined number.
-pub mod Laws
+pub mod Capped

@@ -1,2 +1,2 @@
 -- The laws of or.
-pub mod Laws
+pub mod SplitJoin

@@ -1,4 +1,4 @@
 -- The laws of the root, and the arithmetic of Newton's step.
-pub mod Laws
+pub mod WholeRoot
 mod Near
 mod Newton

@@ -1,2 +1,2 @@
 -- The laws of size.
-pub mod Laws
+pub mod SizeWords

@@ -11,8 +11,9 @@ use native.Mathlib.Omega.{arith}
 use lib.ListN.{length, getD, set, replicate, length-set, length-append, List·getD-eq-default}
 use lib.Seq.{getD-set-same, getD-set-other}
 use Rattle.numbers.specs.Size.{Size, finite, endless, codeOf, sizeOf}
-use Rattle.numbers.proofs.size.Laws.{sized-finite, sized-endless}
-use Rattle.graph.proofs.Marks.{same?, le-or-lt, blank}
+use Rattle.numbers.proofs.size.SizeWords.{sized-finite, sized-endless}
+use Rattle.graph.proofs.Marks.{blank}
+use Rattle.lists.proofs.Order.{same?, le-or-lt}
 use Rattle.grammar.specs.Table.{kindOf, aOf, bOf, nodes}
 use Rattle.grammar.specs.Sizes.{sizeAt}
 use Rattle.grammar.specs.Law.{Fit}

@@ -3,7 +3,7 @@
 ghost use mathlib.Core.List.{_++_};
 ghost use Rattle.lines.specs.Decimal.{decimal};
 ghost use Rattle.lines.specs.Line.{lineText};
-ghost use Rattle.walk.specs.Filled.{Filled};
+ghost use Rattle.lists.specs.Filled.{Filled};
 ghost use Rattle.printing.specs.Texts.{caseText, caseRefusedText, refusedText};
 use grammar::refusal::Refusal;
 use grammar::refusal::number_of;

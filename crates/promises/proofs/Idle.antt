@@ -17,7 +17,7 @@ use Rattle.walk.specs.Walk
 use Rattle.checked.specs.Fits.{fitted}
 use Rattle.checked.specs.Opening.{opening}
 use Rattle.checked.specs.Item.{frontOf, wholeOf}
-use Rattle.walk.specs.Filled.{over}
+use Rattle.lists.specs.Filled.{over}
 use Rattle.walk.proofs.Opened.{walking}
 use Rattle.grammar.specs.Verdict.{verdict, answer, checkSays}
 use Rattle.grammar.specs.declared.refusal.Refusal.{Refusal}

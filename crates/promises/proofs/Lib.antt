@@ -2,7 +2,7 @@
 pub mod Main
 pub mod Refused
 pub mod OneList
-pub mod Sides
+pub mod WriteSides
 pub mod Unique
 pub mod Idle
 pub mod Worked

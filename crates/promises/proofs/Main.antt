@@ -43,7 +43,7 @@ use Rattle.promises.proofs.Refused.{Because}
 use Rattle.promises.proofs.Refused as Reasons
 use Rattle.promises.proofs.Unique as Unique
 use Rattle.promises.proofs.WorkedRows as Rows
-use Rattle.promises.proofs.Sides as Sides
+use Rattle.promises.proofs.WriteSides as Sides
 
 -- ---- Demand 1. Every table, number and row of cells gets an answer, and a refusal changes no lent cell: one outcome for every input, and a refusal's
 -- buffer is as it was.

@@ -11,7 +11,7 @@ use mathlib.Core.List.{List}
 use Prim.Native.Nat.{ℕ, _≤_, _<_}
 use Rattle.numbers.specs.Size.{Size}
 use Rattle.graph.specs.Lowest.{Lowest}
-use Rattle.graph.proofs.Marks.{le-or-lt}
+use Rattle.lists.proofs.Order.{le-or-lt}
 use Rattle.graph.proofs.Lowest.{lowest-256}
 use Rattle.grammar.specs.Table.{nodes, lengths}
 use Rattle.grammar.specs.Refusals.{numberOf}

@@ -15,8 +15,8 @@ use Rattle.grammar.specs.declared.refusal.Refusal.{Refusal}
 use Rattle.grammar.specs.declared.refusal.Verdict.the-variants.{Accepted}
 use Rattle.grammar.specs.Rule.{Rule}
 use Rattle.grammar.specs.Sizes.{rulesOf}
-use Rattle.walk.specs.Filled.{over}
-use Rattle.walk.proofs.Fills.{over-front}
+use Rattle.lists.specs.Filled.{over}
+use Rattle.lists.proofs.Fills.{over-front}
 use Rattle.checked.proofs.Opens.{opens}
 use Rattle.rows.specs.Row.{leaves}
 use Rattle.rows.specs.WriteRow.{inTurn, rowOf, writesRow, WroteRow}
@@ -26,7 +26,7 @@ use Rattle.rows.specs.Cut.{Cut, joined, handOut, asks}
 use Rattle.rows.specs.declared.answer.Row.{Row}
 use Rattle.rows.specs.declared.answer.Row.the-variants.{Done, Refused}
 use Rattle.rows.specs.declared.reader.Next.the-variants.{End, Refused as Not-handed}
-use Rattle.rows.proofs.Turns.{done-row}
+use Rattle.rows.proofs.WrittenInTurn.{done-row}
 use Rattle.rows.proofs.Cuts.{gathered-fits, turns-cut, cut-turns, gather-cut, cut-gather, cut-stopped, asks-cut}
 use Rattle.rows.proofs.Values.{wrote-row-is, got-row-is}
 

@@ -42,7 +42,7 @@ use Rattle.rows.specs.Cut.{Cut, none, item, joined, handOut, asks}
 use Rattle.rows.specs.declared.answer.Row.the-variants.{Done}
 use Rattle.rows.specs.declared.reader.Next.{Next}
 use Rattle.rows.specs.declared.reader.Next.the-variants.{Item, Refused}
-use Rattle.rows.proofs.Turns.{onward-done}
+use Rattle.rows.proofs.WrittenInTurn.{onward-done}
 use Rattle.rows.proofs.Gathering.{gather-none, gather-full, gather-more}
 use Rattle.checked.proofs.Opens.{opens}
 use Rattle.rows.proofs.Calls.{next-some}

@@ -11,11 +11,11 @@ use lib.ListN.{length, drop, set, length-append, length-drop, drop-of-length-le}
 use Rattle.grammar.specs.declared.refusal.Refusal.{Refusal}
 use Rattle.grammar.specs.declared.refusal.Refusal.the-variants.{NoRoom}
 use Rattle.grammar.specs.Rule.{Rule}
-use Rattle.walk.specs.Filled.{over}
+use Rattle.lists.specs.Filled.{over}
 use Rattle.checked.specs.Item.{front, Stood}
 use Rattle.checked.specs.declared.item.Item.{Item}
 use Rattle.checked.specs.declared.item.Item.the-variants.{Number, Not}
-use Rattle.checked.proofs.Copying.{over-long}
+use Rattle.lists.proofs.Fills.{over-long}
 use Rattle.checked.proofs.Standing.{stood}
 use Rattle.rows.specs.ReadRow.{Gathered, all, stopped, after, full, onward, gather, answered, NumbersOver}
 use Rattle.rows.specs.declared.answer.Row.the-variants.{Done, Refused}

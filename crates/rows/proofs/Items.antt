@@ -10,9 +10,9 @@ use native.Mathlib.Omega.{arith}
 use lib.ListN.{length}
 use Rattle.grammar.specs.declared.refusal.Refusal.{Refusal}
 use Rattle.grammar.specs.Rule.{Rule}
-use Rattle.walk.specs.Filled.{over}
+use Rattle.lists.specs.Filled.{over}
 use Rattle.checked.specs.Kept.{Kept}
-use Rattle.checked.proofs.Copying.{over-long}
+use Rattle.lists.proofs.Fills.{over-long}
 use Rattle.rows.specs.ReadRow.{Gathered, all, stopped, gather, answered, gotten, Gathers, GotItems}
 use Rattle.rows.specs.declared.answer.Row.{Row}
 use Rattle.rows.specs.declared.answer.Row.the-variants.{Done, Refused}

@@ -2,10 +2,10 @@
 pub mod Values
 pub mod Items
 pub mod Calls
-pub mod Turns
+pub mod WrittenInTurn
 pub mod Gathering
 pub mod Cuts
 pub mod Answers
-pub mod Outcomes
+pub mod CountedRows
 pub mod Lent
 pub mod Asking

@@ -14,7 +14,7 @@ use Rattle.grammar.specs.declared.refusal.Refusal.{Refusal}
 use Rattle.grammar.specs.declared.refusal.Refusal.the-variants.{NoRoom}
 use Rattle.grammar.specs.Rule.{Rule}
 use Rattle.grammar.specs.Sizes.{rulesOf}
-use Rattle.walk.specs.Filled.{over}
+use Rattle.lists.specs.Filled.{over}
 use Rattle.checked.specs.Opening.{judged, opening}
 use Rattle.checked.specs.Item.{Front, number, refused, front}
 use Rattle.rows.specs.Row.{atFirst, leaves, RowAnswer, rowAnswer}

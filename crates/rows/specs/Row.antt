@@ -8,7 +8,7 @@ use mathlib.Core.List.{List}
 use Prim.Native.Nat.{ℕ}
 use Rattle.grammar.specs.Refusals.{numberOf}
 use Rattle.grammar.specs.declared.refusal.Refusal.{Refusal}
-use Rattle.walk.specs.Filled.{over}
+use Rattle.lists.specs.Filled.{over}
 use Rattle.rows.specs.declared.answer.Row.{Row}
 use Rattle.rows.specs.declared.answer.Row.the-variants.{Done, Refused}
 

@@ -12,7 +12,7 @@ use Prim.Native.Nat.{ℕ, _+_, _-_}
 use lib.ListN.{length}
 use Rattle.grammar.specs.Rule.{Rule}
 use Rattle.grammar.specs.Sizes.{rulesOf}
-use Rattle.walk.specs.Filled.{over}
+use Rattle.lists.specs.Filled.{over}
 use Rattle.checked.specs.Opening.{judged, opening}
 use Rattle.checked.specs.Fits.{caseCells, fitted}
 use Rattle.checked.specs.declared.fits.Fit.{Fit}

@@ -2,7 +2,7 @@
 ghost use mathlib.Core.Path.{_≡_};
 ghost use lib.ListN.{length, set};
 ghost use Rattle.grammar.specs.Plan.{ruleIn};
-ghost use Rattle.walk.specs.Filled.{over};
+ghost use Rattle.lists.specs.Filled.{over};
 ghost use Rattle.checked.specs.Prepared.{Blank};
 ghost use Rattle.walk.specs.Plan.{Reading};
 ghost use Rattle.checked.specs.Kept.{Kept};

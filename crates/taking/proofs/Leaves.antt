@@ -15,7 +15,7 @@ use lib.ListN.{length, take, drop, length-take}
 use borrow.Author.Tests.{ltb-true}
 use Rattle.numbers.specs.Pick.{pick}
 use Rattle.numbers.specs.Joined.{limit, capped, wordOf}
-use Rattle.graph.specs.Ways.{has}
+use Rattle.lists.specs.Lists.{has}
 use Rattle.grammar.specs.Rule.{Tree, done, fails, takes}
 use Rattle.grammar.specs.Placed.{counted, placed}
 use Rattle.grammar.specs.kinds.Below.{belowRule}

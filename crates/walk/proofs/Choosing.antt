@@ -14,8 +14,8 @@ use lib.ListN.{length, getD, take, drop}
 use borrow.Author.Tests.{ltb-true, leb-true}
 use Rattle.numbers.specs.Size.{Size, finite, endless, Below, sizeOf}
 use Rattle.numbers.specs.Dep
-use Rattle.numbers.proofs.size.Laws.{by-size}
-use Rattle.numbers.proofs.dep.Laws as Deps
+use Rattle.numbers.proofs.size.SizeWords.{by-size}
+use Rattle.numbers.proofs.dep.SplitJoin as Deps
 use Rattle.grammar.specs.Rule.{Item}
 use Rattle.grammar.specs.Checks.{few, fits, isEndless, allFinite, allEndless, allLower, total}
 use Rattle.grammar.specs.Checks.{count as countOf}
@@ -25,7 +25,8 @@ use Rattle.grammar.specs.kinds.Dep.{secondsOf, depRule}
 use Rattle.grammar.specs.kinds.Dep.{dep as depKind}
 use Rattle.grammar.proofs.Tests.{finite-word, endless-word}
 use Rattle.grammar.proofs.Stepping.{few-word}
-use Rattle.grammar.proofs.Runs.{run-long, run-at, run-fails, lower-run, finite-run}
+use Rattle.grammar.proofs.Runs.{lower-run, finite-run}
+use Rattle.lists.proofs.Runs.{run-long, run-at, run-fails}
 use Rattle.grammar.proofs.Seconds.{seconds-firsts, seconds-second, finite-total, else-finite, else-endless}
 use Rattle.grammar.proofs.laws.Dep.{Shown, shows}
 use Rattle.walk.specs.Plan.{Reading, Visits, Choosing}

@@ -13,7 +13,7 @@ use native.Mathlib.Nat.{not-suc-le-zero, le-of-suc-le-suc}
 use native.Mathlib.Omega.{arith}
 use lib.ListN.{length, length-append}
 use Rattle.numbers.specs.Size.{Size, Below}
-use Rattle.graph.proofs.Marks.{le-or-lt}
+use Rattle.lists.proofs.Order.{le-or-lt}
 use Rattle.grammar.specs.Rule.{Item, own, part, Tree, done, fails, takes, reads, Rule}
 use Rattle.walk.specs.Walk.{Event, cell, deep, shown, walk}
 use Rattle.grammar.specs.Law.{Path, Meets, itemsOf, Names, Each, Down, flat, guarded, skip, Lawful, Good}

@@ -3,7 +3,6 @@ pub mod Back
 pub mod Only
 pub mod Ends
 pub mod Descent
-pub mod Fills
 pub mod Rooms
 pub mod Visit
 pub mod Nodes

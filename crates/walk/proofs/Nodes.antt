@@ -17,7 +17,7 @@ use lib.Dec.{eqb}
 use lib.ListN.{length, getD}
 use borrow.Author.Tests.{eqb-true}
 use Rattle.numbers.specs.Size.{Size, Below, Some, sizeOf}
-use Rattle.numbers.proofs.size.Laws.{by-size}
+use Rattle.numbers.proofs.size.SizeWords.{by-size}
 use Rattle.grammar.specs.Rule.{Item, part, Rule}
 use Rattle.grammar.specs.Kind.{Node, Kind, before}
 use Rattle.grammar.specs.Law.{Holds, Under}

@@ -10,7 +10,7 @@ use lib.ListN.{length}
 use Rattle.numbers.specs.Pick.{pick}
 use Rattle.walk.specs.Walk.{Event, cells}
 use Rattle.walk.specs.Room.{RoomLeft, Left, TooDeep, NoRoom, tallied}
-use Rattle.walk.specs.Filled.{over}
+use Rattle.lists.specs.Filled.{over}
 
 -- the code's word
 abbrev pub leftOf : ℕ → RoomLeft

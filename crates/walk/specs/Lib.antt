@@ -2,6 +2,5 @@
 pub mod Walk
 pub mod Run
 pub mod Room
-pub mod Filled
 pub mod Laid
 pub mod Plan

@@ -17,7 +17,7 @@ use Rattle.grammar.specs.Rule.{reads}
 use Rattle.grammar.proofs.KindLaw.{fit-some, lower-both, KindLaw, Lower, Plain}
 use native.Mathlib.Nat.{mul-le-mul}
 use Rattle.numbers.specs.Cons
-use Rattle.numbers.proofs.cons.Laws as Conses
+use Rattle.numbers.proofs.cons.SplitJoin as Conses
 use Rattle.grammar.specs.kinds.Cons.{both, consRule, cons}
 use Rattle.grammar.specs.Refusals.{numberOf}
 

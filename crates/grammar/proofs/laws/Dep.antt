@@ -24,10 +24,11 @@ use lib.ListN.{length-take, length-drop}
 use Rattle.numbers.specs.Dep
 use Rattle.numbers.specs.Dep.{Seconds}
 use Rattle.numbers.specs.Cons.{pair}
-use Rattle.numbers.proofs.dep.Laws as Deps
-use Rattle.grammar.specs.Checks.{every, few, seconds, total, allLower, allFinite, allEndless}
+use Rattle.numbers.proofs.dep.SplitJoin as Deps
+use Rattle.grammar.specs.Checks.{few, seconds, total, allLower, allFinite, allEndless}
+use Rattle.lists.specs.Lists.{every}
 use Rattle.grammar.specs.Checks.{count as countOf}
-use Rattle.grammar.proofs.Runs.{every-at}
+use Rattle.lists.proofs.Runs.{every-at}
 use Rattle.grammar.specs.kinds.Dep.{counts, secondsOf, chosen, depRule, dep}
 use Rattle.grammar.proofs.Seconds.{seconds-firsts, seconds-size, seconds-second}
 use Rattle.grammar.specs.Refusals.{numberOf}

@@ -21,8 +21,8 @@ use Rattle.grammar.specs.Rule.{part, done, fails, reads}
 use Rattle.grammar.proofs.Trees.{spell-done, spell-reads, spell-right, read-pick, names-pick}
 use Rattle.grammar.proofs.KindLaw.{KindLaw, Lower}
 use Rattle.numbers.specs.Except
-use Rattle.numbers.proofs.size.Laws.{below-is}
-use Rattle.numbers.proofs.except.Laws as Excepts
+use Rattle.numbers.proofs.size.SizeWords.{below-is}
+use Rattle.numbers.proofs.except.SplitJoin as Excepts
 use Rattle.grammar.specs.kinds.Except.{exceptRule, except}
 use Rattle.grammar.specs.Refusals.{numberOf}
 

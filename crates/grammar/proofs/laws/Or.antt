@@ -19,7 +19,7 @@ use Rattle.numbers.specs.Or.{PartBelow, turn}
 use Rattle.numbers.specs.declared.or.Part.{Part}
 use Rattle.numbers.specs.declared.or.Part.the-variants.{First, Second}
 use Rattle.numbers.proofs.Tests.{pick-by}
-use Rattle.numbers.proofs.or.Laws as Ors
+use Rattle.numbers.proofs.or.SplitJoin as Ors
 use Rattle.grammar.specs.kinds.Or.{tagged, orRule, or}
 use Rattle.grammar.specs.Refusals.{numberOf}
 

@@ -20,9 +20,9 @@ use Rattle.grammar.specs.Law.{Lawful, Holds}
 use Rattle.grammar.specs.Kind.{Node, before}
 use Rattle.grammar.proofs.Trees.{spell-done, spell-takes, spell-left, read-pick, names-pick}
 use Rattle.grammar.proofs.KindLaw.{KindLaw, Lower, Plain}
-use Rattle.graph.specs.Ways.{has}
+use Rattle.lists.specs.Lists.{has}
 use Rattle.grammar.specs.Checks.{different}
-use Rattle.grammar.proofs.Runs.{run-long, run-at}
+use Rattle.lists.proofs.Runs.{run-long, run-at}
 use Rattle.grammar.specs.kinds.Pool.{placeOf, poolRule, pool}
 use Rattle.grammar.proofs.Words.{place-in, word-at, word-in, place-word}
 use Rattle.grammar.specs.Refusals.{numberOf}

@@ -8,7 +8,7 @@ use lib.Dec.{eqb, leb}
 use lib.ListN.{getD, take, drop}
 use Rattle.numbers.specs.Pick.{pick}
 use Rattle.numbers.specs.Size.{finite}
-use Rattle.graph.specs.Ways.{has}
+use Rattle.lists.specs.Lists.{has}
 use Rattle.grammar.specs.Checks.{asks, within, different}
 use Rattle.grammar.specs.declared.refusal.Refusal.the-variants.{Range, Repeat}
 use Rattle.grammar.specs.Rule.{done, fails, Rule, cellRule}

@@ -6,7 +6,7 @@
 use mathlib.Core.Path.{_≡_}
 use Prim.Native.Nat.{ℕ, _^_, _≤_, _<_}
 use Rattle.numbers.specs.Size.{Size, finite, endless, sizeOf}
-use Rattle.numbers.proofs.size.Laws.{by-size, sized-finite, sized-endless}
+use Rattle.numbers.proofs.size.SizeWords.{by-size, sized-finite, sized-endless}
 
 module _ {A : Type 0} (F : Size → Size → A) (i j : ℕ) (a : A) where
   pub first-fast : i < 2 ^ 63 → a ≡ F (finite i) endless → a ≡ F (finite i) (finite j) → a ≡ F (sizeOf i) (sizeOf j)

@@ -7,7 +7,7 @@ use Prim.Native.Nat.{ℕ, _+_, _*_, _-_, _^_, _≤_, _<_}
 use native.Mathlib.Nat.{mul-le-mul}
 use native.Mathlib.Omega.{arith}
 use Rattle.numbers.specs.Root.{root}
-use Rattle.numbers.proofs.root.Laws.{root-is, root-one}
+use Rattle.numbers.proofs.root.WholeRoot.{root-is, root-one}
 
 pub square-fits : (r : ℕ) → r < 2 ^ 32 → r * r < 2 ^ 64
 square-fits r h = omega (arith, mul-le-mul {n₁ = r} {m₁ = r} {n₂ = 2 ^ 32 - 1} {m₂ = 2 ^ 32 - 1} (omega arith) (omega arith))

@@ -16,11 +16,11 @@ use Rattle.grammar.specs.declared.refusal.Refusal.{Refusal}
 use Rattle.grammar.specs.declared.refusal.Refusal.the-variants.{NoSuchStart}
 use Rattle.grammar.specs.declared.refusal.Verdict.{Verdict}
 use Rattle.grammar.specs.declared.refusal.Verdict.the-variants.{Accepted, Refused}
-use Rattle.walk.specs.Filled.{Filled}
+use Rattle.lists.specs.Filled.{Filled}
 use Rattle.cases.specs.Write.{writes, Wrote}
 use Rattle.cases.specs.declared.writing.Written.{Written}
 use Rattle.cases.specs.declared.writing.Written.the-variants.{Done, Refused as Refuses}
-use Rattle.cases.proofs.Outcomes.{written-fits, written-cells}
+use Rattle.cases.proofs.Counted.{written-fits, written-cells}
 use Rattle.printing.specs.Texts.{refusedText, caseText, caseRefusedText}
 use Rattle.printing.specs.Input.{oneAt}
 use Rattle.printing.specs.Printed.{started, room, caseLine, OnPage, Judges, Answers}

@@ -11,8 +11,8 @@ use lib.Seq.{take-all}
 use Rattle.grammar.specs.Refusals.{numberOf}
 use Rattle.grammar.specs.declared.refusal.Refusal.{Refusal}
 use Rattle.grammar.specs.declared.refusal.Refusal.the-variants.{Length, Kind, SpareWord, Reference, Range, Repeat, UnsuitedPart, TooLarge, Unguarded, ExceptOnCycle, NoSuchStart, NoSuchNumber, TooDeep, NoRoom, NotACase, NumberTooLarge}
-use Rattle.walk.specs.Filled.{Filled}
-use Rattle.walk.proofs.Fills.{over-is}
+use Rattle.lists.specs.Filled.{Filled}
+use Rattle.lists.proofs.Fills.{over-is}
 use Rattle.lines.specs.Ascii.{bytes}
 use Rattle.lines.specs.Decimal.{decimal}
 use Rattle.lines.specs.Line.{lineText}

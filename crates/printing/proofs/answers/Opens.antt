@@ -8,7 +8,7 @@ use Prim.Native.Nat.{ℕ, _≤_}
 use native.Mathlib.Omega.{arith}
 use lib.ListN.{length, take, drop}
 use lib.Seq.{take-append-seam}
-use Rattle.walk.specs.Filled.{Filled}
+use Rattle.lists.specs.Filled.{Filled}
 use Rattle.lines.specs.Ascii.{bytes}
 use Rattle.lines.specs.Line.{stored}
 use Rattle.printing.specs.Texts.{unreadableText}

@@ -9,8 +9,8 @@ use native.Mathlib.Omega.{arith}
 use lib.ListN.{length, getD, take, drop, set, drop-of-length-le}
 use lib.Seq.{take-all}
 use Rattle.lines.proofs.Fronts.{front-more, front-length}
-use Rattle.walk.specs.Filled.{Filled}
-use Rattle.walk.proofs.Fills.{over-is}
+use Rattle.lists.specs.Filled.{Filled}
+use Rattle.lists.proofs.Fills.{over-is}
 
 pub record Copying (text old now : List ℕ) (i : ℕ) : Type 0 where
   pub so-far : now ≡ take i text ++ drop i old

@@ -8,8 +8,8 @@ use native.Mathlib.Numerals.{add-one}
 use native.Mathlib.Omega.{arith}
 use lib.ListN.{length, getD, take, drop, drop-of-length-le}
 use lib.Seq.{drop-cons}
-use Rattle.walk.specs.Filled.{Filled}
-use Rattle.walk.proofs.Fills.{nothing, then}
+use Rattle.lists.specs.Filled.{Filled}
+use Rattle.lists.proofs.Fills.{nothing, then}
 use Rattle.lines.specs.Decimal.{decimal}
 use Rattle.lines.specs.Line.{lineText}
 

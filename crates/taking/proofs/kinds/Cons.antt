@@ -6,7 +6,7 @@ use Prim.Native.Nat.{ℕ, _+_, _-_, _^_, _≤_, _<_}
 use native.Mathlib.Omega.{arith}
 use Rattle.numbers.specs.Cons
 use Rattle.numbers.specs.Joined.{capped, wordOf}
-use Rattle.numbers.proofs.cons.Laws as Conses
+use Rattle.numbers.proofs.cons.SplitJoin as Conses
 use Rattle.grammar.specs.Rule.{done, reads}
 use Rattle.grammar.specs.Plan.{sizeIn, ruleIn}
 use Rattle.grammar.specs.kinds.Cons.{cons as consKind}

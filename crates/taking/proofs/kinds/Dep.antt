@@ -12,7 +12,7 @@ use lib.ListN.{getD, take, drop}
 use borrow.Author.Tests.{ltb-true, ltb-false}
 use Rattle.numbers.specs.Dep
 use Rattle.numbers.specs.Joined.{capped, wordOf}
-use Rattle.graph.proofs.Marks.{le-or-lt}
+use Rattle.lists.proofs.Order.{le-or-lt}
 use Rattle.grammar.specs.Rule.{Tree, done, reads}
 use Rattle.grammar.specs.Plan.{sizeIn, ruleIn}
 use Rattle.grammar.specs.Seconds.{firsts}

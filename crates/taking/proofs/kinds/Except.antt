@@ -10,8 +10,8 @@ use borrow.Author.Tests.{eq-eqb, ne-eqb}
 use Rattle.numbers.specs.Pick.{pick}
 use Rattle.numbers.specs.Except
 use Rattle.numbers.specs.Joined.{capped, wordOf}
-use Rattle.numbers.proofs.except.Laws as Excepts
-use Rattle.graph.proofs.Marks.{le-or-lt}
+use Rattle.numbers.proofs.except.SplitJoin as Excepts
+use Rattle.lists.proofs.Order.{le-or-lt}
 use Rattle.grammar.specs.Rule.{Tree, done, fails}
 use Rattle.grammar.specs.Plan.{ruleIn}
 use Rattle.grammar.specs.kinds.Except.{except as exceptKind}

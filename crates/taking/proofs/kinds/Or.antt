@@ -8,13 +8,13 @@ use native.Mathlib.Omega.{arith}
 use lib.Dec.{eqb}
 use lib.ListN.{length}
 use borrow.Author.Tests.{ne-eqb}
-use Rattle.graph.proofs.Marks.{le-or-lt}
+use Rattle.lists.proofs.Order.{le-or-lt}
 use Rattle.numbers.specs.Pick.{pick}
 use Rattle.numbers.specs.Or
 use Rattle.numbers.proofs.Tests.{pick-by}
 use Rattle.numbers.specs.Joined.{limit, capped, wordOf}
 use Rattle.numbers.specs.declared.or.Part.the-variants.{First, Second}
-use Rattle.numbers.proofs.or.Laws as Ors
+use Rattle.numbers.proofs.or.SplitJoin as Ors
 use Rattle.grammar.specs.Rule.{Tree, done, fails, reads}
 use Rattle.grammar.specs.Plan.{sizeIn, ruleIn}
 use Rattle.grammar.specs.kinds.Below.{belowRule}

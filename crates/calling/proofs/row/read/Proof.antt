@@ -2,7 +2,7 @@
 -- Assumes nothing.
 use borrow.Author.Needs.{needs}
 use native.Mathlib.Omega.{arith}
-use Rattle.rows.proofs.Outcomes.{got-fits}
+use Rattle.rows.proofs.CountedRows.{got-fits}
 use Rattle.calling.proofs.Answers.{told, got-done, got-refused}
 use Rattle.calling.proofs.row.read.Statement.{statement}
 use Rattle.calling.proofs.row.read.Tie as tie

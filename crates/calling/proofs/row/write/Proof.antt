@@ -2,7 +2,7 @@
 -- Assumes nothing.
 use borrow.Author.Needs.{needs}
 use native.Mathlib.Omega.{arith}
-use Rattle.rows.proofs.Outcomes.{row-fits}
+use Rattle.rows.proofs.CountedRows.{row-fits}
 use Rattle.calling.proofs.Answers.{told, row-done, row-refused}
 use Rattle.calling.proofs.row.write.Statement.{statement}
 use Rattle.calling.proofs.row.write.Tie as tie

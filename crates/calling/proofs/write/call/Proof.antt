@@ -2,7 +2,7 @@
 -- Assumes nothing.
 use borrow.Author.Needs.{needs}
 use native.Mathlib.Omega.{arith}
-use Rattle.cases.proofs.Outcomes.{written-fits}
+use Rattle.cases.proofs.Counted.{written-fits}
 use Rattle.pages.proofs.Pages.{_then_}
 use Rattle.calling.proofs.Answers.{told, wrote-done, wrote-refused}
 use Rattle.calling.proofs.write.call.Statement.{statement}

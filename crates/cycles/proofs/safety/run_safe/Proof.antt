@@ -4,7 +4,7 @@ use mathlib.Core.Path.{_≡_}
 use Prim.Native.Nat.{_+_, _-_}
 use native.Mathlib.Omega.{arith}
 use lib.ListN.{getD}
-use Rattle.grammar.proofs.Runs.{Upto, upto-none, upto-more}
+use Rattle.lists.proofs.Runs.{Upto, upto-none, upto-more}
 use Rattle.cycles.proofs.Safe.{run-safe, run-not}
 use Rattle.cycles.proofs.safety.run_safe.Statement.{statement}
 use Rattle.cycles.proofs.safety.run_safe.Tie as tie

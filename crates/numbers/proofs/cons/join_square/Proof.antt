@@ -11,7 +11,7 @@ use Rattle.numbers.specs.Size.{endless}
 use Rattle.numbers.specs.Joined.{capped, limit}
 use Rattle.numbers.specs.Cons.{join}
 use Rattle.numbers.proofs.Tests.{pick-by}
-use Rattle.numbers.proofs.joined.Laws.{is-big}
+use Rattle.numbers.proofs.joined.Capped.{is-big}
 use Rattle.numbers.proofs.cons.join_square.Statement.{statement}
 use Rattle.numbers.proofs.cons.join_square.Tie as tie
 

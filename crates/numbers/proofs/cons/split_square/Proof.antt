@@ -8,7 +8,7 @@ use borrow.Author.Tests.{lt-ltb, le-ltb}
 use Rattle.numbers.specs.Size.{endless}
 use Rattle.numbers.specs.Root.{root}
 use Rattle.numbers.specs.Cons.{pair, split}
-use Rattle.numbers.proofs.root.Laws.{root-is}
+use Rattle.numbers.proofs.root.WholeRoot.{root-is}
 use Rattle.numbers.proofs.cons.split_square.Statement.{statement}
 use Rattle.numbers.proofs.cons.split_square.Tie as tie
 

@@ -2,7 +2,7 @@
 -- Assumes nothing.
 use borrow.Author.Needs.{needs}
 use native.Mathlib.Omega.{arith}
-use Rattle.numbers.proofs.joined.Laws.{is-big}
+use Rattle.numbers.proofs.joined.Capped.{is-big}
 use Rattle.numbers.proofs.dep.join_finite.Statement.{statement}
 use Rattle.numbers.proofs.dep.join_finite.Tie as tie
 

@@ -5,7 +5,7 @@ use mathlib.Core.Path.{_≡_}
 use Prim.Native.Nat.{ℕ, _+_, _*_, _-_, _/_, _≤_, _<_}
 use native.Mathlib.Nat.{zero-mul}
 use native.Mathlib.Omega.{arith}
-use Rattle.numbers.proofs.joined.Laws.{is-big, is-exact}
+use Rattle.numbers.proofs.joined.Capped.{is-big, is-exact}
 use Rattle.numbers.specs.Joined.{capped, limit}
 use Rattle.numbers.specs.declared.joined.Joined.the-variants.{Exact, Big}
 use Rattle.numbers.proofs.Words.{little, much, small-product}

@@ -8,7 +8,7 @@ use borrow.Author.Tests.{lt-ltb, le-ltb, le-leb, lt-leb}
 use Rattle.numbers.specs.Size.{Size, finite, endless, sizeOf}
 use Rattle.numbers.specs.Or.{alternate, split}
 use Rattle.numbers.specs.declared.or.Part.the-variants.{First, Second}
-use Rattle.numbers.proofs.size.Laws.{by-size}
+use Rattle.numbers.proofs.size.SizeWords.{by-size}
 use Rattle.numbers.proofs.or.split.Statement.{statement}
 use Rattle.numbers.proofs.or.split.Tie as tie
 

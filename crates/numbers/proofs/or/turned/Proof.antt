@@ -8,9 +8,9 @@ use borrow.Author.Tests.{lt-ltb, le-ltb}
 use Rattle.numbers.specs.Size.{Size, sizeOf}
 use Rattle.numbers.specs.Joined.{capped, limit}
 use Rattle.numbers.specs.Or.{turn}
-use Rattle.numbers.proofs.joined.Laws.{is-big}
-use Rattle.numbers.proofs.or.Laws.{turn-least}
-use Rattle.numbers.proofs.size.Laws.{by-size}
+use Rattle.numbers.proofs.joined.Capped.{is-big}
+use Rattle.numbers.proofs.or.SplitJoin.{turn-least}
+use Rattle.numbers.proofs.size.SizeWords.{by-size}
 use Rattle.numbers.proofs.or.turned.Statement.{statement}
 use Rattle.numbers.proofs.or.turned.Tie as tie
 

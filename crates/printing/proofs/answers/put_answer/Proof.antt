@@ -3,7 +3,7 @@
 use borrow.Author.Needs.{needs}
 use native.Mathlib.Omega.{arith}
 use lib.ListN.{length-take}
-use Rattle.cases.proofs.Outcomes.{written-fits}
+use Rattle.cases.proofs.Counted.{written-fits}
 use Rattle.printing.proofs.answers.Laws.{line-fits, line-done, line-refused}
 use Rattle.printing.proofs.answers.put_answer.Statement.{statement}
 use Rattle.printing.proofs.answers.put_answer.Tie as tie

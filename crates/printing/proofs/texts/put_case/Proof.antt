@@ -3,7 +3,7 @@
 use borrow.Author.Needs.{needs}
 use native.Mathlib.Omega.{arith}
 use mathlib.Core.Path.{refl}
-use Rattle.walk.proofs.Fills.{same, within, then}
+use Rattle.lists.proofs.Fills.{same, within, then}
 use Rattle.printing.specs.Texts.{caseText}
 use Rattle.printing.proofs.texts.put_case.Statement.{statement}
 use Rattle.printing.proofs.texts.put_case.Tie as tie

@@ -3,7 +3,7 @@
 use borrow.Author.Needs.{needs}
 use native.Mathlib.Omega.{arith}
 use lib.ListN.{length-take}
-use Rattle.walk.proofs.Fills.{same}
+use Rattle.lists.proofs.Fills.{same}
 use Rattle.lines.proofs.put.Spelled.{digits-front, digits-fit, digits-none}
 use Rattle.printing.proofs.texts.put_decimal.Statement.{statement}
 use Rattle.printing.proofs.texts.put_decimal.Tie as tie

@@ -5,7 +5,7 @@ use Prim.Native.Nat.{_-_}
 use native.Mathlib.Omega.{arith}
 use mathlib.Core.Path.{refl}
 use lib.ListN.{length}
-use Rattle.walk.proofs.Fills.{same, within}
+use Rattle.lists.proofs.Fills.{same, within}
 use Rattle.printing.proofs.texts.Putting.{line-none, Lining, line-start, line-more, line-end}
 use Rattle.printing.proofs.texts.put_line.Statement.{statement}
 use Rattle.printing.proofs.texts.put_line.Tie as tie

@@ -3,7 +3,7 @@
 use borrow.Author.Needs.{needs}
 use native.Mathlib.Omega.{arith}
 use mathlib.Core.Path.{refl}
-use Rattle.walk.proofs.Fills.{same, within, then}
+use Rattle.lists.proofs.Fills.{same, within, then}
 use Rattle.printing.proofs.texts.put_with.Statement.{statement}
 use Rattle.printing.proofs.texts.put_with.Tie as tie
 

@@ -1,7 +1,8 @@
 -- `rows::reading::settle_numbers` copies what was kept, or reads over the buffer itself.
 -- Assumes nothing.
 use mathlib.Core.Path.{ap, _∙_}
-use Rattle.checked.proofs.Copying.{over-long, kept-copied}
+use Rattle.checked.proofs.Copying.{kept-copied}
+use Rattle.lists.proofs.Fills.{over-long}
 use Rattle.rows.specs.ReadRow.{answered}
 use Rattle.rows.proofs.reading.settle_numbers.Statement.{statement}
 use Rattle.rows.proofs.reading.settle_numbers.Tie as tie

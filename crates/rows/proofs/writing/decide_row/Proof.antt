@@ -5,7 +5,7 @@ use Prim.Native.Nat.{_-_}
 use native.Mathlib.Omega.{arith}
 use lib.ListN.{length}
 use Rattle.grammar.specs.Plan.{ruleIn}
-use Rattle.rows.proofs.Turns.{Tallying, tallying-none, tallying-fits, tallying-more, tallying-stops, tallying-done}
+use Rattle.rows.proofs.WrittenInTurn.{Tallying, tallying-none, tallying-fits, tallying-more, tallying-stops, tallying-done}
 use Rattle.rows.proofs.writing.decide_row.Statement.{statement}
 use Rattle.rows.proofs.writing.decide_row.Tie as tie
 

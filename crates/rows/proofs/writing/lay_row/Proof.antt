@@ -6,7 +6,7 @@ use Prim.Native.Nat.{_-_}
 use native.Mathlib.Omega.{arith}
 use lib.ListN.{length}
 use Rattle.grammar.specs.Plan.{ruleIn}
-use Rattle.rows.proofs.Turns.{Laying, laying-none, laying-long, laying-within, laying-fits, laying-more, laying-stops, laying-done}
+use Rattle.rows.proofs.WrittenInTurn.{Laying, laying-none, laying-long, laying-within, laying-fits, laying-more, laying-stops, laying-done}
 use Rattle.rows.proofs.writing.lay_row.Statement.{statement}
 use Rattle.rows.proofs.writing.lay_row.Tie as tie
 

@@ -9,7 +9,7 @@ use native.Mathlib.Omega.{arith}
 use lib.ListN.{length, getD, take, drop}
 use borrow.Author.Tests.{lt-ltb, le-leb, lt-leb}
 use Rattle.numbers.specs.Size.{sizeOf}
-use Rattle.numbers.proofs.size.Laws.{by-size}
+use Rattle.numbers.proofs.size.SizeWords.{by-size}
 use Rattle.grammar.specs.Checks.{row, few, count}
 use Rattle.grammar.specs.Kind.{before}
 use Rattle.grammar.specs.Nodes.{nodeWith}

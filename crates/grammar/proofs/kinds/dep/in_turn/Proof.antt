@@ -2,7 +2,7 @@
 -- Assumes nothing.
 use Prim.Native.Nat.{_-_}
 use native.Mathlib.Omega.{arith}
-use Rattle.grammar.proofs.Turns.{Turning, turning-none, turning-found, turning-more, turning-end}
+use Rattle.grammar.proofs.SecondsInTurn.{Turning, turning-none, turning-found, turning-more, turning-end}
 use Rattle.grammar.proofs.kinds.dep.in_turn.Statement.{statement}
 use Rattle.grammar.proofs.kinds.dep.in_turn.Tie as tie
 

@@ -2,7 +2,7 @@
 -- Assumes nothing.
 use borrow.Author.Needs.{needs}
 use native.Mathlib.Omega.{arith}
-use Rattle.grammar.proofs.Turns.{head-in}
+use Rattle.grammar.proofs.SecondsInTurn.{head-in}
 use Rattle.grammar.proofs.Joins.{few-sum, finite-join, endless-join}
 use Rattle.grammar.proofs.kinds.dep.joined.Statement.{statement}
 use Rattle.grammar.proofs.kinds.dep.joined.Tie as tie

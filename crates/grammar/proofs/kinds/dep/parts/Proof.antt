@@ -3,7 +3,7 @@
 use mathlib.Core.Path.{_∙_}
 use borrow.Author.Needs.{needs}
 use native.Mathlib.Omega.{arith}
-use Rattle.grammar.proofs.Turns.{head-in, finite-split, endless-split}
+use Rattle.grammar.proofs.SecondsInTurn.{head-in, finite-split, endless-split}
 use Rattle.grammar.proofs.kinds.dep.parts.Statement.{statement}
 use Rattle.grammar.proofs.kinds.dep.parts.Tie as tie
 

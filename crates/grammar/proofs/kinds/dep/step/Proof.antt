@@ -4,7 +4,7 @@ use mathlib.Core.Path.{sym, ap, _∙_}
 use native.Mathlib.Omega.{arith}
 use borrow.Author.Needs.{needs}
 use Rattle.grammar.specs.kinds.Dep.{chosen, depRule}
-use Rattle.grammar.proofs.Turns.{second-in, second-is}
+use Rattle.grammar.proofs.SecondsInTurn.{second-in, second-is}
 use Rattle.grammar.proofs.kinds.dep.step.Statement.{statement}
 use Rattle.grammar.proofs.kinds.dep.step.Tie as tie
 

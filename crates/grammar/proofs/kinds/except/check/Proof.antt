@@ -9,7 +9,7 @@ use lib.Dec.{ltb}
 use borrow.Author.Tests.{lt-ltb, le-ltb, eq-eqb, ne-eqb}
 use Rattle.numbers.specs.Size.{sizeOf}
 use Rattle.numbers.specs.Size.{below as isBelow}
-use Rattle.numbers.proofs.size.Laws.{by-size}
+use Rattle.numbers.proofs.size.SizeWords.{by-size}
 use Rattle.grammar.proofs.Tests.{tests}
 use Rattle.grammar.specs.Checks.{row, isOne}
 use Rattle.grammar.specs.kinds.Except.{exceptRule}

@@ -13,8 +13,8 @@ use Rattle.grammar.specs.Verdict.{verdict}
 use Rattle.grammar.specs.declared.refusal.Verdict.{Verdict}
 use Rattle.grammar.specs.declared.refusal.Verdict.the-variants.{Accepted, Refused as Refuses}
 use Rattle.grammar.specs.Sizes.{rulesOf}
-use Rattle.walk.specs.Filled.{over}
-use Rattle.walk.proofs.Fills.{over-front}
+use Rattle.lists.specs.Filled.{over}
+use Rattle.lists.proofs.Fills.{over-front}
 use Rattle.cases.proofs.BothSides.{case-some}
 use Rattle.checked.specs.Opening.{judged, opening}
 use Rattle.checked.proofs.Opens.{opened-means}
@@ -26,7 +26,7 @@ use Rattle.rows.specs.Reader.{handed, next, nextOf}
 use Rattle.rows.specs.declared.answer.Row.{Row}
 use Rattle.rows.specs.declared.answer.Row.the-variants.{Done}
 use Rattle.rows.specs.declared.reader.Next.the-variants.{Item, Refused as Not-handed}
-use Rattle.rows.proofs.Turns.{done-row}
+use Rattle.rows.proofs.WrittenInTurn.{done-row}
 use Rattle.rows.proofs.Cuts.{gathered-fits, case-front}
 use Rattle.rows.proofs.Values.{wrote-row-is, got-row-is}
 

@@ -20,7 +20,7 @@ use Rattle.numbers.specs.Cons.{pair, edge, split, join}
 use Rattle.numbers.specs.declared.cons.Pair.{Pair}
 use Rattle.numbers.proofs.Tests.{pick-by}
 use Rattle.numbers.proofs.Words.{own-square}
-use Rattle.numbers.proofs.root.Laws.{root-is, root-of}
+use Rattle.numbers.proofs.root.WholeRoot.{root-is, root-of}
 
 abbrev PairBelow : Size → Size → Pair → Type 0
 PairBelow i j p = Below (p .first) i × Below (p .second) j

@@ -16,7 +16,7 @@ use Rattle.cases.specs.Read.{reads}
 use Rattle.cases.specs.declared.writing.Written.{Written}
 use Rattle.cases.specs.declared.writing.Written.the-variants.{Done}
 use Rattle.cases.specs.declared.reading.Found.the-variants.{Number}
-use Rattle.cases.proofs.Outcomes.{written-cells}
+use Rattle.cases.proofs.Counted.{written-cells}
 use Rattle.cases.proofs.BothSides as Both-sides
 use Rattle.cases.proofs.Values.{wrote-is}
 

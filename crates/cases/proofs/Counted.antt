@@ -12,8 +12,8 @@ use Rattle.grammar.specs.declared.refusal.Verdict.{Verdict}
 use Rattle.grammar.specs.declared.refusal.Verdict.the-variants.{Accepted, Refused as Refuses}
 use Rattle.grammar.specs.Rule.{Rule}
 use Rattle.grammar.specs.Sizes.{rulesOf}
-use Rattle.walk.specs.Filled.{over}
-use Rattle.walk.proofs.Fills.{over-front}
+use Rattle.lists.specs.Filled.{over}
+use Rattle.lists.proofs.Fills.{over-front}
 use Rattle.checked.specs.Opening.{judged, opening}
 use Rattle.checked.specs.Fits.{caseCells, fitted}
 use Rattle.checked.specs.declared.fits.Fit.{Fit}

@@ -12,8 +12,8 @@ use lib.ListN.{length, getD, take, drop, length-append, length-drop, length-take
 use lib.Seq.{take-all, take-suc, drop-cons}
 use Rattle.grammar.specs.declared.refusal.Refusal.{Refusal}
 use Rattle.grammar.specs.Rule.{Rule}
-use Rattle.walk.specs.Filled.{over}
-use Rattle.walk.proofs.Fills.{length-over, part-old, part-rest, then}
+use Rattle.lists.specs.Filled.{over}
+use Rattle.lists.proofs.Fills.{length-over, part-old, part-rest, then}
 use Rattle.checked.specs.Fits.{caseCells, fitted, FitOver}
 use Rattle.checked.specs.declared.fits.Fit.{Fit}
 use Rattle.checked.specs.declared.fits.Fit.the-variants.{Cells, Not}

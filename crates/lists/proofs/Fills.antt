@@ -1,5 +1,5 @@
 -- A fill of a buffer, and of the part that it left.
---   length-over, over-front, over-back, over-is, over-append   a list over a buffer's front
+--   length-over, over-long, over-front, over-back, over-is, over-append   a list over a buffer's front
 --   part-old, part-rest   the part from a place on, and what lies after it
 --   then           one list over the front, and then another over what is left, is their sum over the front
 --   nothing        a fill of no words
@@ -12,7 +12,7 @@ use native.Mathlib.Nat.{not-suc-le-zero, le-of-suc-le-suc, zero-min, min-zero, s
 use native.Mathlib.Omega.{arith}
 use lib.ListN.{length, take, drop, drop-of-length-le, length-append, length-drop}
 use lib.Seq.{take-all, take-nil}
-use Rattle.walk.specs.Filled.{over, Filled}
+use Rattle.lists.specs.Filled.{over, Filled}
 
 over-none : (new : List ℕ) → over new [] ≡ []
 unfolding over
@@ -24,6 +24,9 @@ unfolding over
 length-over [] old = refl
 length-over (x ∷ new) [] = refl
 length-over (x ∷ new) (y ∷ old) = ap suc (length-over new old)
+
+pub over-long : (new old : List ℕ) {last : List ℕ} → last ≡ over new old → length last ≡ length old
+over-long new old e = ap length e ∙ length-over new old
 
 -- a list over the front of a buffer that is long enough
 pub over-front : (cs old : List ℕ) → length cs ≤ length old → take (length cs) (over cs old) ≡ cs

@@ -18,11 +18,12 @@ use Rattle.numbers.specs.Cons.{pair}
 use Rattle.numbers.specs.Dep.{endlesses, inTurn}
 use Rattle.numbers.specs.Dep
 use Rattle.numbers.specs.declared.cons.Pair.{Pair}
-use Rattle.numbers.proofs.size.Laws.{sized-finite}
+use Rattle.numbers.proofs.size.SizeWords.{sized-finite}
 use Rattle.grammar.specs.Checks.{count, allEndless, isEndless}
 use Rattle.grammar.specs.Rule.{part}
 use Rattle.grammar.specs.Plan.{sizeIn}
-use Rattle.grammar.proofs.Runs.{run-long, run-at, wordAt, run-fails}
+use Rattle.grammar.proofs.Runs.{wordAt}
+use Rattle.lists.proofs.Runs.{run-long, run-at, run-fails}
 use Rattle.grammar.proofs.Tests.{finite-word}
 use Rattle.grammar.specs.kinds.Dep.{chosen, counts, secondsOf}
 use Rattle.grammar.specs.Seconds.{firsts, headSize, DepIn}

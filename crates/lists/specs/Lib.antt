@@ -1,0 +1,3 @@
+-- Lists.
+pub mod Lists
+pub mod Filled

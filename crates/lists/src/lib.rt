@@ -1,0 +1,1 @@
+// Facts of lists and of order that several crates share: definitions and proofs alone, no code.
