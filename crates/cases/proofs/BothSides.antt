@@ -8,7 +8,8 @@
 --   only-cases          `read` gives a number only for the cells of its case
 --   one-case, one-number   a number has one case, a case one number
 --   no-case-begins      the same of cells at any depths, and of any two numbers
---   reads-on, longer-refused, no-beginning   a case followed by anything is read to its end, so `read` refuses it, and no case is the beginning of a different one
+-- reads-on, longer-refused, no-beginning   a case followed by anything is read to its end, so `read` refuses it, and no case is the beginning of a
+-- different one
 -- The reader of the crate `rows` goes on from there (`case-handed` of `Rattle.promises.proofs.OneList`).
 -- Assumes nothing.
 use mathlib.Core.Path.{_≡_, refl, sym, subst, ap, _∙_}

@@ -1,4 +1,5 @@
--- What the verdict means, for a reader who trusts paths and not a computed test. The nodes are judged one by one (`Rattle.grammar.specs.Nodes`). Of a table whose
+-- What the verdict means, for a reader who trusts paths and not a computed test. The nodes are judged one by one (`Rattle.grammar.specs.Nodes`). Of a table
+-- whose
 -- lengths are right and whose nodes all pass, the verdict is 9 with the lowest node on an unguarded cycle, else 10 with the lowest except on a cycle, else
 -- accepted; a cycle is a path of any length from a node to itself.
 --   leads-is                       the computed test agrees with paths of any length

@@ -34,7 +34,8 @@ pub found-number : (w : Read) (n : ℕ) → found (wholeOf w) ≡ Number n → (
 unfolding wholeOf frontOf
 found-number (read m q []) n e = by (ltb m (2 ^ 62)) refl e
   where
-    by : (b : Bool) → ltb m (2 ^ 62) ≡ b → found (pick b (number m []) (refused NumberTooLarge)) ≡ Number n → (q' : ℕ) × (read m q [] ≡ read n q' []) × (n < 2 ^ 62)
+    by : (b : Bool) → ltb m (2 ^ 62) ≡ b → found (pick b (number m []) (refused NumberTooLarge)) ≡ Number n
+        → (q' : ℕ) × (read m q [] ≡ read n q' []) × (n < 2 ^ 62)
     by true u v = let s : m ≡ n = cc in (q, ap (λ (x : ℕ). read x q []) s, omega (arith, ltb-true m (2 ^ 62) u))
     by false u v = let z : _≡_ {A = ℕ} 0 1 = cc in absurd (omega arith)
 found-number (read m q (c ∷ cs)) n e = let z : _≡_ {A = ℕ} 0 1 = cc in absurd (omega arith)

@@ -173,7 +173,8 @@ fn joined(pool: &[u64], plan: &[u64], a: usize, b: usize, x: u64, y: u64) -> Joi
 
 pub fn join(pool: &[u64], plan: &[u64], a: usize, b: usize, x: u64, y: u64) -> u64
     requires { ⌜ DepIn (now plan) (now pool) a b × (x < firsts (now plan) a) ⌝ }
-    ensures { λ r. ⌜ r ≡ wordOf (capped (Dep.join (secondsOf (sizeIn (now (plan .entry))) (take (firsts (now (plan .entry)) a) (drop b (now (pool .entry))))) x y)) ⌝ }
+    ensures { λ r. ⌜ r ≡ wordOf (capped (Dep.join (secondsOf (sizeIn (now (plan .entry))) (take (firsts (now (plan .entry)) a) (drop b (now
+        (pool .entry))))) x y)) ⌝ }
 {
     word(joined(pool, plan, a, b, x, y))
 }

@@ -18,6 +18,10 @@ read-with-spec =
     (λ c. search needs)
     (λ c. let at-begin = c .before .before .before .before .before in read-refused (at-begin .begin .ensures) _ (c .before .r .given .1))
     (λ c. search needs)
-    (λ c. let at-read-case = c .before .before .before in let at-enum-told = at-read-case .before .before in let at-begin = at-enum-told .before .before .before .before in read-by (at-begin .begin .ensures) _ (at-enum-told .enum-told .given .1) (at-read-case .read-case .ensures) _ (c .before .n .given .1))
+    (λ c. let at-read-case = c .before .before .before in let at-enum-told = at-read-case .before .before in
+    let at-begin = at-enum-told .before .before .before .before in read-by (at-begin .begin .ensures) _ (at-enum-told .enum-told .given .1)
+    (at-read-case .read-case .ensures) _ (c .before .n .given .1))
     (λ c. search needs)
-    (λ c. let at-read-case = c .before .before .before in let at-enum-told = at-read-case .before .before in let at-begin = at-enum-told .before .before .before .before in read-by (at-begin .begin .ensures) _ (at-enum-told .enum-told .given .1) (at-read-case .read-case .ensures) _ (c .before .r2 .given .1)))
+    (λ c. let at-read-case = c .before .before .before in let at-enum-told = at-read-case .before .before in
+    let at-begin = at-enum-told .before .before .before .before in read-by (at-begin .begin .ensures) _ (at-enum-told .enum-told .given .1)
+    (at-read-case .read-case .ensures) _ (c .before .r2 .given .1)))

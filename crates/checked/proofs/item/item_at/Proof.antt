@@ -13,5 +13,6 @@ item-at-spec =
     (λ c. search needs)
     (λ c κs. search needs)
     (λ c. search needs)
-    (λ c. let at-word = c .before .before in let at-got-at = at-word .before .before in stood-item (at-got-at .got-at .ensures) (at-word .word .given .1) (c .numbered .ensures))
+    (λ c. let at-word = c .before .before in let at-got-at = at-word .before .before in
+    stood-item (at-got-at .got-at .ensures) (at-word .word .given .1) (c .numbered .ensures))
     (λ c. let at-got-at = c .before .before .before in stood-wrong (at-got-at .got-at .ensures) (c .before .r .given .1)))

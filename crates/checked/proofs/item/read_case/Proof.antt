@@ -12,8 +12,10 @@ read-case-spec =
     (tie.spec
     (λ c κs. let at-pre = c .before .before .before in (at-pre .pre, omega arith))
     (λ c. search needs)
-    (λ c. let at-word = c .before .before in let at-got-at = at-word .before .before in whole-more (at-got-at .got-at .ensures) (at-word .word .given .1) (c .if1 .taken))
+    (λ c. let at-word = c .before .before in let at-got-at = at-word .before .before in
+    whole-more (at-got-at .got-at .ensures) (at-word .word .given .1) (c .if1 .taken))
     (λ c κs. search needs)
     (λ c. search needs)
-    (λ c. let at-word = c .before .before .before in let at-got-at = at-word .before .before in whole-item (at-got-at .got-at .ensures) (at-word .word .given .1) (c .before .if1 .left) (c .numbered .ensures))
+    (λ c. let at-word = c .before .before .before in let at-got-at = at-word .before .before in
+    whole-item (at-got-at .got-at .ensures) (at-word .word .given .1) (c .before .if1 .left) (c .numbered .ensures))
     (λ c. let at-got-at = c .before .before .before in whole-wrong (at-got-at .got-at .ensures) (c .before .r .given .1)))

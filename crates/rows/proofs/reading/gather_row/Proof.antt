@@ -39,7 +39,8 @@ gather-row-spec =
       stood (c .before .before .before .before .before .before .before .before .item-at .ensures)
           (c .before .before .before .before .before .before .n .given .1) .1,
       stood
-          (c .before .before .before .before .before .before .before .before .item-at .ensures) (c .before .before .before .before .before .before .n .given .1) .2,
+          (c .before .before .before .before .before .before .before .before .item-at .ensures)
+          (c .before .before .before .before .before .before .n .given .1) .2,
     ))
     (λ c. storing-more _ _ (c .before .before .before .before .before .before .before .before .before .before .loop .inv)
     (c .before .before .before .before .before .before .before .before .before .loop-test .taken)
