@@ -21,7 +21,7 @@ use Rattle.grammar.specs.Sizes.{rulesOf}
 use Rattle.walk.specs.Walk.{walk, cells, depth}
 use Rattle.walk.specs.Filled.{over}
 use Rattle.walk.proofs.Fills.{over-back, part-old}
-use Rattle.lines.specs.Ascii.{bytes}
+use Rattle.texts.specs.Ascii.{bytes}
 use Rattle.cases.specs.Write.{writes, leaves, Wrote}
 use Rattle.cases.specs.Read.{reads}
 use Rattle.cases.specs.declared.reading.Found.{Found}
@@ -38,11 +38,12 @@ use Rattle.rows.specs.declared.reader.Next.{Next}
 use Rattle.rows.specs.declared.reader.Next.the-variants.{Item, End, Refused as NoNext}
 use Rattle.rows.specs.declared.reader.Stride.{Stride}
 use Rattle.rows.proofs.Outcomes.{row-size, row-cells, got-size, got-numbers, next-moves}
-use Rattle.pages.specs.Buffer.{startWords}
-use Rattle.pages.specs.Page.{Puts}
-use Rattle.pages.specs.Texts.{unreadableText, itemText, refusedText, refusedLine, refusedItem, itemsText, cellsText, endText}
-use Rattle.pages.proofs.Pages.{none, _then_}
-use Rattle.pages.proofs.Buffers.{start-kept, start-length}
+use Rattle.asking.specs.Buffer.{startWords}
+use Rattle.texts.specs.Page.{Puts}
+use Rattle.texts.specs.Said.{unreadableText, refusedText, refusedLine}
+use Rattle.asking.specs.Texts.{itemText, refusedItem, itemsText, cellsText, endText}
+use Rattle.texts.proofs.page.Putting.{none, _then_}
+use Rattle.asking.proofs.Buffers.{start-kept, start-length}
 use Rattle.calling.specs.Line.{same, wordSize}
 use Rattle.calling.specs.Calls.{checkText, readText, writeText, rowText, onward, asksBy, asksText, caseText, wayText, callOf, callText, lineText}
 use Rattle.calling.specs.State.{knownOf}

@@ -13,8 +13,8 @@ use lib.Dec.{leb}
 use lib.ListN.{length, getD, take, drop}
 use lib.Seq.{take-append-seam}
 use borrow.Author.Tests.{leb-true, le-leb}
-use Rattle.lines.specs.Line.{Reading, numbers, unreadable, within, stored}
-use Rattle.pages.specs.Texts.{unreadableText}
+use Rattle.texts.specs.Line.{Reading, numbers, unreadable, within, stored}
+use Rattle.texts.specs.Said.{unreadableText}
 use Rattle.calling.specs.Asked.{mostRow, mostRoom, mostFields, fieldsOf, takenBy, lentBy, Takes, TakesLent}
 use Rattle.calling.specs.Calls.{withCells, withBuffer, alone}
 use Rattle.calling.specs.declared.asked.Taken.{Taken}

@@ -15,14 +15,14 @@ use lib.Dec.{eqb}
 use lib.ListN.{length, getD, take, drop, length-drop, drop-of-length-le}
 use lib.Seq.{drop-cons, take-append-seam}
 use borrow.Author.Tests.{eq-eqb, ne-eqb, le-leb, lt-leb, not-true, not-false}
-use Rattle.lines.specs.Ascii.{bytes}
-use Rattle.lines.specs.Line.{Reading, numbers, unreadable, lineAt, within, ReadLine}
-use Rattle.lines.specs.declared.line.Line.{Line}
-use Rattle.lines.specs.declared.line.Line.the-variants.{Numbers, Unreadable as NoLine}
-use Rattle.lines.proofs.line.Outcomes.{read-numbers, read-unreadable}
-use Rattle.pages.specs.Page.{Puts}
-use Rattle.pages.specs.Texts.{unreadableText}
-use Rattle.pages.proofs.Pages.{none, _then_}
+use Rattle.texts.specs.Ascii.{bytes}
+use Rattle.texts.specs.Line.{Reading, numbers, unreadable, lineAt, within, ReadLine}
+use Rattle.texts.specs.declared.line.Line.{Line}
+use Rattle.texts.specs.declared.line.Line.the-variants.{Numbers, Unreadable as NoLine}
+use Rattle.texts.proofs.line.Outcomes.{read-numbers, read-unreadable}
+use Rattle.texts.specs.Page.{Puts}
+use Rattle.texts.specs.Said.{unreadableText}
+use Rattle.texts.proofs.page.Putting.{none, _then_}
 use Rattle.calling.specs.Line.{readable, same}
 use Rattle.calling.specs.Calls.{Known, nothing, lineText}
 use Rattle.calling.specs.Input.{lineSize, after, lineOf, mostTableWords, mostPoolWords, bothRead, tableAt, isTable, saidAt, nextAt, nextKnown, printedBy, printed, Waits}

@@ -10,10 +10,10 @@ use native.Mathlib.Omega.{arith}
 use lib.Dec.{leb}
 use lib.ListN.{length, getD, drop}
 use borrow.Author.Tests.{leb-true, leb-false, le-leb, lt-leb}
-use Rattle.lines.specs.Line.{Reading, numbers, unreadable, within, stored, ReadLine}
-use Rattle.lines.specs.declared.line.Line.{Line}
-use Rattle.lines.specs.declared.line.Line.the-variants.{Numbers, Unreadable as NoLine}
-use Rattle.lines.proofs.line.Outcomes.{readable-not, ReadNumbers, read-numbers, read-unreadable}
+use Rattle.texts.specs.Line.{Reading, numbers, unreadable, within, stored, ReadLine}
+use Rattle.texts.specs.declared.line.Line.{Line}
+use Rattle.texts.specs.declared.line.Line.the-variants.{Numbers, Unreadable as NoLine}
+use Rattle.texts.proofs.line.Outcomes.{readable-not, ReadNumbers, read-numbers, read-unreadable}
 use Rattle.calling.specs.Asked.{mostRow, mostRoom, mostFields, fieldsOf, takenBy, lentBy, Takes, TakesLent}
 use Rattle.calling.specs.declared.asked.Taken.{Taken}
 use Rattle.calling.specs.declared.asked.Taken.the-variants.{Count, Unreadable}

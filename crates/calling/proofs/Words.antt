@@ -13,7 +13,7 @@ use lib.Dec.{eqb}
 use lib.ListN.{length, getD, drop, drop-of-length-le}
 use lib.Seq.{drop-cons}
 use borrow.Author.Tests.{eq-eqb, ne-eqb}
-use Rattle.lines.specs.Ascii.{bytes}
+use Rattle.texts.specs.Ascii.{bytes}
 use Rattle.calling.specs.Line.{same}
 use Rattle.calling.specs.Calls.{callOf}
 use Rattle.calling.specs.declared.calls.Call.the-variants.{Check, Write, Read, WriteRow, ReadRow, Reader, Unknown}

@@ -14,11 +14,13 @@ use Rattle.rows.specs.WriteRow.{writesRowPlanned, writesRow}
 use Rattle.rows.specs.WriteRow as Written
 use Rattle.rows.specs.ReadRow.{gather, readsRowPlanned, readsRow}
 use Rattle.rows.specs.Reader.{next, nextPlanned, nextOf}
-use Rattle.lines.specs.Ascii.{bytes}
-use Rattle.lines.specs.Numeral.{run, valueFrom, wellFormed, numeral}
-use Rattle.lines.specs.Decimal.{decimalBy, decimal}
-use Rattle.lines.specs.Line.{ended, words, numberOf as numberOfWord, numbersOf, lineAt}
-use Rattle.pages.specs.Texts.{unreadableText, numberText, numberLine, itemText, refusedText, refusedLine, refusedItem, itemsText, spaced, cellsText}
+use Rattle.texts.specs.Ascii.{bytes}
+use Rattle.texts.specs.Numeral.{run, valueFrom, wellFormed, numeral}
+use Rattle.texts.specs.Decimal.{decimalBy, decimal}
+use Rattle.texts.specs.Line.{ended, words, numberOf as numberOfWord, numbersOf, lineAt}
+use Rattle.texts.specs.Line.{spaced}
+use Rattle.texts.specs.Said.{unreadableText, refusedText, refusedLine}
+use Rattle.asking.specs.Texts.{numberText, numberLine, itemText, refusedItem, itemsText, cellsText}
 use Rattle.calling.specs.Line.{readable, wordSize, same}
 use Rattle.calling.specs.Calls.{checkText, readText, writeText, rowText, asksBy, asksText, caseText, askText, wayText, callOf, callText, lineText}
 use Rattle.calling.specs.Input.{lineSize, after, lineOf, tableAt, saidAt, nextAt, nextKnown, printedBy, printed}

@@ -11,7 +11,7 @@ use mathlib.Core.List.{List, [], _∷_}
 use Prim.Native.Nat.{ℕ, _+_}
 use lib.Dec.{leb}
 use lib.ListN.{length}
-use Rattle.lines.specs.Line.{Reading, numbers, unreadable, lineAt, within, stored}
+use Rattle.texts.specs.Line.{Reading, numbers, unreadable, lineAt, within, stored}
 use Rattle.calling.specs.declared.asked.Taken.{Taken}
 use Rattle.calling.specs.declared.asked.Taken.the-variants.{Count, Unreadable}
 use Rattle.calling.specs.declared.asked.Lent.{Lent}

@@ -16,8 +16,8 @@ use Rattle.grammar.specs.declared.refusal.Verdict.{Verdict}
 use Rattle.grammar.specs.declared.refusal.Verdict.the-variants.{Accepted, Refused}
 use Rattle.grammar.specs.Sizes.{rulesOf}
 use Rattle.walk.specs.Walk.{walk, cells, depth}
-use Rattle.lines.specs.Ascii.{bytes}
-use Rattle.lines.specs.Line.{Reading, numbers, unreadable}
+use Rattle.texts.specs.Ascii.{bytes}
+use Rattle.texts.specs.Line.{Reading, numbers, unreadable}
 use Rattle.cases.specs.Write.{writes}
 use Rattle.cases.specs.Read.{reads}
 use Rattle.cases.specs.declared.reading.Found.{Found}
@@ -31,7 +31,8 @@ use Rattle.rows.specs.declared.answer.Row.{Row}
 use Rattle.rows.specs.declared.answer.Row.the-variants.{Done as DoneRow, Refused as NotDone}
 use Rattle.rows.specs.declared.reader.Next.{Next}
 use Rattle.rows.specs.declared.reader.Next.the-variants.{Item, End, Refused as NoNext}
-use Rattle.pages.specs.Texts.{unreadableText, numberLine, itemText, refusedLine, refusedItem, itemsText, cellsText}
+use Rattle.texts.specs.Said.{unreadableText, refusedLine}
+use Rattle.asking.specs.Texts.{numberLine, itemText, refusedItem, itemsText, cellsText}
 use Rattle.calling.specs.Asked.{mostRow, mostRoom, fieldsOf}
 use Rattle.calling.specs.Line.{same, wordSize}
 use Rattle.calling.specs.declared.cells.Ask.{Ask}

@@ -10,10 +10,10 @@ use mathlib.Core.List.{List, [], _∷_, _++_}
 use Prim.Native.Nat.{ℕ, zero, suc, _+_}
 use lib.Dec.{eqb, leb}
 use lib.ListN.{length, take, drop}
-use Rattle.lines.specs.Ascii.{bytes, lf}
-use Rattle.lines.specs.Line.{Reading, numbers, unreadable, lineAt, within}
-use Rattle.pages.specs.Page.{Puts}
-use Rattle.pages.specs.Texts.{unreadableText}
+use Rattle.texts.specs.Ascii.{bytes, lf}
+use Rattle.texts.specs.Line.{Reading, numbers, unreadable, lineAt, within}
+use Rattle.texts.specs.Page.{Puts}
+use Rattle.texts.specs.Said.{unreadableText}
 use Rattle.calling.specs.Line.{readable, same}
 use Rattle.calling.specs.Calls.{Known, about, nothing, lineText}
 

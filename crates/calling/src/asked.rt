@@ -4,8 +4,8 @@ ghost use Rattle.calling.specs.Asked.{Takes, TakesLent};
 use super::line::FIELDS_AT;
 use super::line::MOST_FIELDS;
 use super::line::MOST_ROW;
-use lines::line::Line;
-use lines::line::numbers_at;
+use texts::line::Line;
+use texts::line::numbers_at;
 
 // As many words as a lent buffer has.
 pub const MOST_ROOM: usize = 70000;

@@ -3,7 +3,7 @@
 ghost use mathlib.Core.Path.{_≡_};
 ghost use Prim.Native.Nat.{_≤_};
 ghost use lib.ListN.{length};
-ghost use Rattle.pages.specs.Page.{Puts};
+ghost use Rattle.texts.specs.Page.{Puts};
 ghost use Rattle.calling.specs.Calls.{callOf, callText, lineText};
 ghost use Rattle.calling.specs.State.{knownOf};
 use super::asked::MOST_ROOM;
@@ -17,8 +17,8 @@ use super::row;
 use super::row::Way;
 use super::state::State;
 use super::write;
-use pages::answers::unreadable;
-use pages::page::PAGE_BYTES;
+use texts::page::PAGE_BYTES;
+use texts::said::unreadable;
 
 enum Call {
     Check,

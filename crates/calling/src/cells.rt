@@ -3,21 +3,21 @@
 ghost use Prim.Native.Nat.{_-_, _≤_};
 ghost use lib.ListN.{length, take, drop};
 ghost use Rattle.cases.specs.Read.{reads};
-ghost use Rattle.pages.specs.Page.{Puts};
+ghost use Rattle.texts.specs.Page.{Puts};
 ghost use Rattle.calling.specs.Asked.{fieldsOf};
 ghost use Rattle.calling.specs.Calls.{withCells, readText, asksText, askText};
 use super::asked::AFTER_START;
 use super::asked::Taken;
 use super::asked::take;
 use super::line::MOST_FIELDS;
+use asking::answers::item_line;
+use asking::answers::number_line;
 use cases::Found;
-use pages::answers::item_line;
-use pages::answers::number_line;
-use pages::answers::refused_line;
-use pages::answers::unreadable;
-use pages::page::PAGE_BYTES;
-use pages::page::put_text;
 use rows::Next;
+use texts::page::PAGE_BYTES;
+use texts::page::put_text;
+use texts::said::refused_line;
+use texts::said::unreadable;
 
 // For the number of one whole case, or for each item of a row.
 pub enum Ask {

@@ -1,13 +1,13 @@
 // `check`: whether the table is a grammar.
-ghost use Rattle.pages.specs.Page.{Puts};
+ghost use Rattle.texts.specs.Page.{Puts};
 ghost use Rattle.calling.specs.Calls.{callText};
 ghost use Rattle.calling.specs.declared.calls.Call.the-variants.{Check};
 use super::line::same;
 use grammar::refusal::Verdict;
-use pages::answers::refused_line;
-use pages::answers::unreadable;
-use pages::page::PAGE_BYTES;
-use pages::page::put_text;
+use texts::page::PAGE_BYTES;
+use texts::page::put_text;
+use texts::said::refused_line;
+use texts::said::unreadable;
 
 pub fn answer(
     rest: &[u8],

@@ -18,13 +18,13 @@ ghost use Rattle.calling.specs.State.{Within, Turns};
 use asked::MOST_ROOM;
 use libc::STDIN_FILENO;
 use line::MOST_FIELDS;
-use lines::ascii::LF;
-use pages::answers;
-use pages::page;
-use pages::page::PAGE_BYTES;
 use state::MOST_POOL_WORDS;
 use state::MOST_TABLE_WORDS;
 use state::State;
+use texts::ascii::LF;
+use texts::page;
+use texts::page::PAGE_BYTES;
+use texts::said;
 
 // One byte more than the longest input, to see that an input is longer: it is unreadable as a whole.
 pub const INPUT_ROOM: usize = 4194305;
@@ -42,7 +42,7 @@ fn answer_all(text: &[u8]) {
     let mut page = [0u8; PAGE_BYTES];
     let mut state = state::without_table(0, 0);
     if !readable(text) {
-        let waiting = answers::unreadable(&mut page, state.used);
+        let waiting = said::unreadable(&mut page, state.used);
         finish(text, &page, waiting);
         return;
     }

@@ -4,8 +4,8 @@ ghost use Prim.Native.Nat.{_≤_};
 ghost use lib.ListN.{length};
 ghost use Rattle.calling.specs.Input.{after as afterOf};
 ghost use Rattle.calling.specs.Line.{wordSize, same as isSame};
-use lines::ascii::LF;
-use lines::ascii::SPACE;
+use texts::ascii::LF;
+use texts::ascii::SPACE;
 
 // Where the first field is in what follows the word: a space stands before it.
 pub const FIELDS_AT: usize = 1;

@@ -2,7 +2,7 @@
 // `read-row START ROOM CELL ..`: the numbers of a row of cases, from its cells.
 ghost use Prim.Native.Nat.{_-_, _≤_};
 ghost use lib.ListN.{length, take, drop};
-ghost use Rattle.pages.specs.Page.{Puts};
+ghost use Rattle.texts.specs.Page.{Puts};
 ghost use Rattle.calling.specs.Asked.{fieldsOf};
 ghost use Rattle.calling.specs.Calls.{withBuffer, wayText};
 ghost use Rattle.calling.specs.declared.row.Way.the-variants.{Write as Writes, Read as Reads};
@@ -11,12 +11,12 @@ use super::asked::Lent;
 use super::asked::MOST_ROOM;
 use super::asked::take_lent;
 use super::line::MOST_FIELDS;
-use pages::answers::done_line;
-use pages::answers::refused_at_item;
-use pages::answers::unreadable;
-use pages::buffer::fill;
-use pages::page::PAGE_BYTES;
+use asking::answers::done_line;
+use asking::answers::refused_at_item;
+use asking::buffer::fill;
 use rows::Row;
+use texts::page::PAGE_BYTES;
+use texts::said::unreadable;
 
 pub enum Way {
     Write,

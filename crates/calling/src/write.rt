@@ -1,20 +1,20 @@
 // `write START ROOM NUMBER`: the cells of a number.
 ghost use Prim.Native.Nat.{_≤_};
 ghost use lib.ListN.{length};
-ghost use Rattle.pages.specs.Page.{Puts};
+ghost use Rattle.texts.specs.Page.{Puts};
 ghost use Rattle.calling.specs.Calls.{caseText, callText};
 ghost use Rattle.calling.specs.declared.calls.Call.the-variants.{Write};
 use super::asked::Lent;
 use super::asked::MOST_ROOM;
 use super::asked::take_lent;
 use super::line::MOST_FIELDS;
+use asking::answers::end_line;
+use asking::answers::listed_line;
+use asking::buffer::fill;
 use cases::Written;
-use pages::answers::end_line;
-use pages::answers::listed_line;
-use pages::answers::refused;
-use pages::answers::unreadable;
-use pages::buffer::fill;
-use pages::page::PAGE_BYTES;
+use texts::page::PAGE_BYTES;
+use texts::said::refused;
+use texts::said::unreadable;
 
 // START, ROOM and NUMBER.
 const FIELDS: usize = 3;

@@ -13,7 +13,7 @@ use lib.ListN.{length, take, drop, length-append}
 use lib.Seq.{take-append-seam}
 use Rattle.grammar.specs.declared.refusal.Verdict.{Verdict}
 use Rattle.grammar.specs.declared.refusal.Verdict.the-variants.{Accepted, Refused}
-use Rattle.lines.specs.Line.{stored}
+use Rattle.texts.specs.Line.{stored}
 use Rattle.printing.specs.Input.{Input, asks, unclear, poolStored, oneAt, inputOf}
 use Rattle.printing.specs.Printed.{started, caseLine, casesOf, judged, told, printed, front, atOnce, openBy, opened, Opens, lineOf, said, Answers}
 use Rattle.printing.specs.declared.input.One.{One}

@@ -8,9 +8,9 @@ use mathlib.Core.List.{List, _++_}
 use Prim.Native.Nat.{ℕ}
 use Rattle.grammar.specs.Refusals.{numberOf}
 use Rattle.grammar.specs.declared.refusal.Refusal.{Refusal}
-use Rattle.lines.specs.Ascii.{bytes}
-use Rattle.lines.specs.Decimal.{decimal}
-use Rattle.lines.specs.Line.{lineText}
+use Rattle.texts.specs.Ascii.{bytes}
+use Rattle.texts.specs.Decimal.{decimal}
+use Rattle.texts.specs.Line.{lineText}
 
 unfoldable pub unreadableText : List ℕ
 unreadableText = bytes "unreadable\n"

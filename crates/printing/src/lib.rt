@@ -1,9 +1,9 @@
-// The printing program. What an input asks for (`input`), the texts of what is printed (`texts`) and what
+// The printing program. What an input asks for (`input`), the texts of what is printed (`lines`) and what
 // is printed of an input and of each number (`answers`) are functions on slices; only `print` writes.
 mod answers;
 mod input;
+mod lines;
 mod print;
-mod texts;
 
 pub use answers::Opened;
 pub use answers::PAGE_BYTES;

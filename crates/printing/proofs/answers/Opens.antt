@@ -9,8 +9,8 @@ use native.Mathlib.Omega.{arith}
 use lib.ListN.{length, take, drop}
 use lib.Seq.{take-append-seam}
 use Rattle.walk.specs.Filled.{Filled}
-use Rattle.lines.specs.Ascii.{bytes}
-use Rattle.lines.specs.Line.{stored}
+use Rattle.texts.specs.Ascii.{bytes}
+use Rattle.texts.specs.Line.{stored}
 use Rattle.printing.specs.Texts.{unreadableText}
 use Rattle.printing.specs.Input.{Input, asks, unclear, tableWords, poolWords, inputOf, asked, poolStored, ReadInput}
 use Rattle.printing.specs.Printed.{Judges, Opens}

@@ -3,7 +3,7 @@
 use borrow.Author.Needs.{needs}
 use native.Mathlib.Omega.{arith}
 use Rattle.cases.proofs.Outcomes.{written-fits}
-use Rattle.pages.proofs.Pages.{_then_}
+use Rattle.texts.proofs.page.Putting.{_then_}
 use Rattle.calling.proofs.Answers.{told, wrote-done, wrote-refused}
 use Rattle.calling.proofs.write.call.Statement.{statement}
 use Rattle.calling.proofs.write.call.Tie as tie

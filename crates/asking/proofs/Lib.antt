@@ -1,0 +1,2 @@
+-- What the calls cite of their lent buffers.
+pub mod Buffers

@@ -1,0 +1,2 @@
+-- How texts are put on a page.
+pub mod Putting
