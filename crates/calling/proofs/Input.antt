@@ -20,12 +20,12 @@ use Rattle.texts.specs.Line.{Reading, numbers, unreadable, lineAt, within, Read
 use Rattle.texts.specs.declared.line.Line.{Line}
 use Rattle.texts.specs.declared.line.Line.the-variants.{Numbers, Unreadable as NoLine}
 use Rattle.texts.proofs.line.Outcomes.{read-numbers, read-unreadable}
-use Rattle.texts.specs.Page.{Puts}
+use Rattle.texts.specs.Page.{Puts, Waits}
 use Rattle.texts.specs.Said.{unreadableText}
 use Rattle.texts.proofs.page.Putting.{none, _then_}
 use Rattle.calling.specs.Line.{readable, same}
 use Rattle.calling.specs.Calls.{Known, nothing, lineText}
-use Rattle.calling.specs.Input.{lineSize, after, lineOf, mostTableWords, mostPoolWords, bothRead, tableAt, isTable, saidAt, nextAt, nextKnown, printedBy, printed, Waits}
+use Rattle.calling.specs.Input.{lineSize, after, lineOf, mostTableWords, mostPoolWords, bothRead, tableAt, isTable, saidAt, nextAt, nextKnown, printedBy, printed}
 use Rattle.calling.specs.State.{knownOf, Within, Tables, Turns}
 use Rattle.calling.specs.declared.state.State.{State}
 use Rattle.calling.proofs.Taking.{within-room}

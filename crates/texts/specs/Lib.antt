@@ -3,6 +3,5 @@ pub mod Ascii
 pub mod Numeral
 pub mod Decimal
 pub mod Line
-pub mod Put
 pub mod Page
 pub mod Said

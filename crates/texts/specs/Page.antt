@@ -3,13 +3,16 @@
 --   place              where the next byte goes: to the front again once a full page is written out
 --   pageAfter, waiting what the page holds once a text is put on it, byte by byte, and how many bytes wait there then
 --   Puts               a text that is put on a page
+--   Waits              all of a text was put on a page that was empty
+--   Spelled            a number's digits at the end of a scratch
 -- Assumes nothing.
 use mathlib.Core.Path.{_≡_}
 use mathlib.Core.Bool.{cond}
-use mathlib.Core.List.{List, [], _∷_}
+use mathlib.Core.List.{List, [], _∷_, _++_}
 use Prim.Native.Nat.{ℕ, _+_}
 use lib.Dec.{ltb}
-use lib.ListN.{set}
+use lib.ListN.{length, take, set}
+use Rattle.texts.specs.Decimal.{decimal}
 
 abbrev pub pageBytes : ℕ
 pageBytes = 65536
@@ -28,3 +31,11 @@ waiting (b ∷ bs) used = waiting bs (place used + 1)
 pub record Puts (text old : List ℕ) (used : ℕ) (last : List ℕ) (r : ℕ) : Type 0 where
   pub page : last ≡ pageAfter text old used
   pub waits : r ≡ waiting text used
+
+pub record Waits (text page : List ℕ) (used : ℕ) : Type 0 where
+  pub empty : List ℕ
+  pub puts : Puts text empty 0 page used
+
+pub record Spelled (n : ℕ) (old last : List ℕ) (r : ℕ) : Type 0 where
+  pub begins : r + length (decimal n) ≡ length old
+  pub holds : last ≡ take r old ++ decimal n

@@ -3,5 +3,4 @@ pub mod ascii;
 pub mod line;
 pub mod numeral;
 pub mod page;
-pub mod put;
 pub mod said;

@@ -1,11 +1,13 @@
 // Bytes to print, gathered on a lent page so that no number costs a system call of its own. What
 // puts more on the page is told how many bytes wait there, and answers how many wait then.
 ghost use mathlib.Core.Path.{_≡_};
+ghost use Prim.Native.Nat.{_≤_};
+ghost use lib.ListN.{length};
 ghost use Rattle.texts.specs.Decimal.{decimal};
-ghost use Rattle.texts.specs.Page.{Puts, place as placeOf};
-ghost use Rattle.texts.specs.Line.{spaced};
-use super::put;
-use super::put::Put;
+ghost use Rattle.texts.specs.Line.{lineText, spaced};
+ghost use Rattle.texts.specs.Page.{Puts, Spelled, place as placeOf};
+use super::ascii::BASE;
+use super::ascii::DIGIT_0;
 use libc::STDOUT_FILENO;
 
 pub const PAGE_BYTES: usize = 65536;
@@ -31,11 +33,8 @@ pub fn put_number(page: &mut [u8; PAGE_BYTES], used: usize, n: u64) -> usize
     ensures { λ r. ⌜ Puts (decimal n) (now (page .entry)) used (now (page .exit)) r ⌝ }
 {
     let mut digits = [0u8; MOST_DIGITS];
-    match put::put_number(n, &mut digits) {
-        Put::Bytes(size) => put_text(page, used, &digits[..size]),
-        // Never: the scratch has room for any word.
-        Put::NoRoom => used,
-    }
+    let first = spell(n, &mut digits);
+    put_text(page, used, &digits[first..])
 }
 
 // Each number after a space.
@@ -52,7 +51,19 @@ pub fn put_numbers(page: &mut [u8; PAGE_BYTES], used: usize, numbers: &[u64]) ->
     waiting
 }
 
-// Writes out what waits.
+// A line of numbers with single spaces.
+pub fn put_line(page: &mut [u8; PAGE_BYTES], used: usize, numbers: &[u64]) -> usize
+    ensures { λ r. ⌜ Puts (lineText (now (numbers .entry))) (now (page .entry)) used (now (page .exit)) r ⌝ }
+{
+    if numbers.len() == 0 {
+        return put_text(page, used, b"\n");
+    }
+    let first = put_number(page, used, numbers[0]);
+    let rest = put_numbers(page, first, &numbers[1..]);
+    put_text(page, rest, b"\n")
+}
+
+// Writes out what waits. A write that fails is not tried again: what is put later goes on to the page.
 pub fn flush(page: &[u8; PAGE_BYTES], used: usize) {
     let bytes: &[u8] = page;
     if bytes.len() <= used {
@@ -71,4 +82,20 @@ fn place(page: &[u8; PAGE_BYTES], used: usize) -> usize
     }
     flush(page, used);
     0
+}
+
+// Writes a number's digits at the end of the scratch, the last one first, and answers where they begin.
+fn spell(n: u64, out: &mut [u8]) -> usize
+    requires { ⌜ length (decimal n) ≤ length (now out) ⌝ }
+    ensures { λ r. ⌜ Spelled n (now (out .entry)) (now (out .exit)) r ⌝ }
+{
+    let mut at = out.len() - 1;
+    let mut rest = n;
+    while BASE <= rest {
+        out[at] = DIGIT_0 + (rest % BASE) as u8;
+        rest /= BASE;
+        at -= 1;
+    }
+    out[at] = DIGIT_0 + rest as u8;
+    at
 }

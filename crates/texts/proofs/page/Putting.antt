@@ -3,20 +3,21 @@
 --   one, _then_                    a byte, and a text behind another
 --   Putting, put-none, put-more    a text, byte by byte
 --   Listing, list-none, list-more  words, a space before each
+--   line-none, line-some           a line of numbers
 -- Assumes nothing.
-use mathlib.Core.Path.{_≡_, refl, sym, _∙_}
+use mathlib.Core.Path.{_≡_, refl, sym, subst, _∙_}
 use mathlib.Core.Bool.{Bool, true, false, cond}
 use mathlib.Core.List.{List, [], _∷_, _++_, append-nil, append-assoc}
-use Prim.Native.Nat.{ℕ, _+_, _≤_, _<_}
+use Prim.Native.Nat.{ℕ, _+_, _-_, _≤_, _<_}
 use native.Mathlib.Numerals.{add-one}
 use native.Mathlib.Omega.{arith}
 use lib.Dec.{ltb}
-use lib.ListN.{length, getD, take, set}
+use lib.ListN.{length, getD, take, drop, set}
 use lib.Seq.{take-suc, take-all}
 use borrow.Author.Tests.{ltb-true, lt-ltb, le-ltb}
 use Rattle.texts.specs.Decimal.{decimal}
 use Rattle.texts.specs.Page.{pageBytes, place, pageAfter, waiting, Puts}
-use Rattle.texts.specs.Line.{spaced}
+use Rattle.texts.specs.Line.{lineText, spaced}
 
 pub place-in : (used : ℕ) → used < pageBytes → used ≡ place used
 unfolding place
@@ -94,3 +95,21 @@ module _ {ns old now : List ℕ} {used waits i : ℕ} (s : Listing ns old used n
 
   pub list-all : length ns ≤ i → Puts (spaced ns) old used now waits
   list-all l = rw (take-all i ns l) at (s .so-far)
+
+-- ---- a line of numbers: the first, and the others with a space before each
+line-spaced : (n : ℕ) (ns : List ℕ) → lineText (n ∷ ns) ≡ decimal n ++ spaced ns ++ (10 ∷ [])
+unfolding lineText spaced
+line-spaced n [] = sym (append-assoc (decimal n) [] (10 ∷ []))
+line-spaced n (m ∷ ns) = rw (line-spaced m ns) (simp append-assoc)
+
+pub line-none : (ns : List ℕ) → length ns ≡ 0 → {old last : List ℕ} {used r : ℕ} → Puts (10 ∷ []) old used last r → Puts (lineText ns) old used last r
+unfolding lineText
+line-none [] e p = p
+line-none (n ∷ ns) e p = absurd (omega arith)
+
+pub line-some : (ns : List ℕ) → (length ns ≡ 0 → ⊥) → {old mid late last : List ℕ} {used m k r : ℕ} → Puts (decimal (getD ns 0 0)) old used mid m
+    → Puts (spaced (take (length ns - 1) (drop 1 ns))) mid m late k → Puts (10 ∷ []) late k last r → Puts (lineText ns) old used last r
+line-some [] f p q s = absurd (f refl)
+line-some (n ∷ ns) f {mid = mid} {late = late} {m = m} {k = k} p q s =
+    let all : take (length (n ∷ ns) - 1) ns ≡ ns = take-all (length (n ∷ ns) - 1) ns (omega arith) in
+    rw (line-spaced n ns) (p then subst (λ (xs : List ℕ). Puts (spaced xs) mid m late k) all q then s)

@@ -1,9 +1,10 @@
--- `texts::page::put_number` puts a number's digits.
+-- `texts::page::put_number` puts the digits that stand at the end of its scratch.
 -- Assumes nothing.
 use borrow.Author.Needs.{needs}
 use native.Mathlib.Omega.{arith}
-use lib.ListN.{length-take}
-use Rattle.texts.proofs.put.Spelled.{digits-front, digits-fit, digits-none}
+use mathlib.Core.Path.{refl}
+use Rattle.texts.proofs.Sizes.{decimal-size}
+use Rattle.texts.proofs.page.Spelling.{spelled-same, spelled-text}
 use Rattle.texts.proofs.page.put_number.Statement.{statement}
 use Rattle.texts.proofs.page.put_number.Tie as tie
 
@@ -12,22 +13,9 @@ put-number-spec =
     tie.close
     (tie.spec
     (λ c. search needs)
-    (λ c κs. search needs)
+    (λ c κs. omega (arith, decimal-size (c .before .args .n) (omega arith)))
+    (λ c. let at-spell = c .before .before in omega (arith, at-spell .spell .ensures .begins))
     (λ c. search needs)
-    (λ c. omega (
-      arith,
-      digits-fit (c .before .before .before .before .before .before .before .args .n)
-          (c .before .before .before .before .before .put-number .ensures) (c .before .before .size .given .1),
-    ))
-    (λ c. simp length-take (omega (
-      arith,
-      digits-fit (c .before .before .before .before .before .before .before .before .args .n)
-          (c .before .before .before .before .before .before .put-number .ensures) (c .before .before .before .size .given .1),
-    )))
+    (λ c. let at-spell = c .before .before .before in omega (arith, spelled-same (at-spell .spell .ensures)))
     (λ c κs. search needs)
-    (λ c. search needs)
-    (λ c. rw (digits-front (c .before .before .before .before .before .before .before .before .before .args .n)
-    (c .before .before .before .before .before .before .before .put-number .ensures) (c .before .before .before .before .size .given .1)) at
-    (c .put-text .ensures))
-    (λ c. absurd (digits-none (c .before .before .before .before .before .args .n) (c .before .before .before .put-number .ensures) (c .enum-told .given .1)
-    (omega arith) (omega arith))))
+    (λ c. let at-spell = c .before .before .before .before .before in rw (spelled-text (at-spell .spell .ensures) {size = 20} refl) at (c .put-text .ensures)))
