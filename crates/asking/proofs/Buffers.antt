@@ -3,6 +3,7 @@
 --   Looking, look-..                             words that have not changed
 --   start-kept                                   start words that a call left have not
 --   end-changed, end-kept                        the end of a line
+--   end-done, end-left                           the end of the line of a call that wrote, and of one that did not
 -- Assumes nothing.
 use mathlib.Core.Path.{_≡_, refl, sym, ap, _∙_}
 use mathlib.Core.Bool.{Bool, true, false, not, _||_}
@@ -14,6 +15,8 @@ use lib.Dec.{eqb}
 use lib.ListN.{length, getD, take, drop, set, drop-of-length-le}
 use lib.Seq.{drop-cons, take-all}
 use borrow.Author.Tests.{ne-eqb, eq-eqb}
+use Rattle.walk.specs.Filled.{over}
+use Rattle.walk.proofs.Fills.{over-back}
 use Rattle.texts.proofs.Fronts.{front-more, front-length}
 use Rattle.texts.specs.Ascii.{bytes}
 use Rattle.asking.specs.Buffer.{startWord, startWords, changed}
@@ -105,3 +108,13 @@ module _ (buffer : List ℕ) (from : ℕ) {b : Bool} (e : b ≡ changed from (dr
   pub end-kept : b ≡ false → Puts (bytes "\n") old used last r → Puts (endText buffer from) old used last r
   unfolding endText
   end-kept t p = rw (← e, t) p
+
+-- ---- a lent buffer that a call wrote to, and one that it left
+pub end-done : (n : ℕ) (cs old : List ℕ) {count : ℕ} {last : List ℕ} → count ≡ length cs → last ≡ over cs old → old ≡ startWords 0 n
+    → endText last count ≡ bytes "\n"
+unfolding endText
+end-done n cs old size holds start = rw (holds, size, over-back cs old, start, start-kept n (length cs))
+
+pub end-left : (n : ℕ) {last old : List ℕ} → last ≡ old → old ≡ startWords 0 n → endText last 0 ≡ bytes "\n"
+unfolding endText
+end-left n e start = rw (e, start, start-kept n 0)

@@ -1,13 +1,10 @@
 // Every public call from a shell: the lines of an input, and what each call prints. Nothing is
 // decided here: words are lent, a call is made, and what came back is printed.
-mod asked;
 mod calls;
 mod cells;
-mod check;
+mod lent;
 mod line;
-mod row;
 mod state;
-mod write;
 
 ghost use mathlib.Core.Path.{_≡_};
 ghost use Prim.Native.Nat.{_<_};
@@ -16,9 +13,10 @@ ghost use Rattle.texts.specs.Page.{Waits};
 ghost use Rattle.calling.specs.Input.{printed};
 ghost use Rattle.calling.specs.Line.{readable as isReadable};
 ghost use Rattle.calling.specs.State.{Within, Turns};
-use asked::MOST_ROOM;
+use asking::fields::MOST_FIELDS;
+use asking::fields::MOST_ROOM;
+use asking::same::same;
 use libc::STDIN_FILENO;
-use line::MOST_FIELDS;
 use state::MOST_POOL_WORDS;
 use state::MOST_TABLE_WORDS;
 use state::State;
@@ -104,7 +102,7 @@ fn answer_line(
     let at = state.at;
     let next = line::after(text, at);
     let line = &text[at..next];
-    if line::same(line, b"table\n") {
+    if same(line, b"table\n") {
         return state::take_table(text, next, state.used, table, pool, page);
     }
     let used = calls::answer(line, state, table, pool, fields, buffer, page);

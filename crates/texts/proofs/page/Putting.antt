@@ -1,6 +1,6 @@
 -- Texts put on a page, one behind another.
 --   place-front, -in, -within      a byte goes within the page
---   one, _then_                    a byte, and a text behind another
+--   one, _then_, told              a byte, a text behind another, and a text by another name
 --   Putting, put-none, put-more    a text, byte by byte
 --   Listing, list-none, list-more  words, a space before each
 --   line-none, line-some           a line of numbers
@@ -50,6 +50,10 @@ infixl 20 _then_
 pub _then_ : {a b old mid last : List ℕ} {used m r : ℕ} → Puts a old used mid m → Puts b mid m last r → Puts (a ++ b) old used last r
 _then_ {a} {b} {old} {mid} {last} {used} p q =
     record { page = q .page ∙ rw (p .page, p .waits) (sym (page-then a b old used)); waits = q .waits ∙ rw (p .waits) (sym (waits-then a b used)) }
+
+-- a text by another name
+pub told : {a b : List ℕ} → a ≡ b → {old last : List ℕ} {used r : ℕ} → Puts a old used last r → Puts b old used last r
+told e {old} {last} {used} {r} p = subst (λ (text : List ℕ). Puts text old used last r) e p
 
 pub none : {old : List ℕ} {used : ℕ} → Puts [] old used old used
 unfolding pageAfter waiting
