@@ -10,8 +10,8 @@ use bench_tables::tables::Shape;
 use bench_tables::tables::laid_out;
 use libc::STDIN_FILENO;
 use libc::STDOUT_FILENO;
-use lines::line::Line;
-use lines::line::numbers_at;
+use texts::line::Line;
+use texts::line::numbers_at;
 
 const MOST_CELLS: usize = 65536;
 

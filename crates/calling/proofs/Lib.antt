@@ -1,8 +1,5 @@
--- What the proofs of more than one call cite.
-mod Taking
-mod Fields
+-- What the proofs of more than one function cite, and worked prints.
 mod Lines
-mod Words
-mod Answers
+mod Named
 mod Input
 mod Worked

@@ -14,13 +14,21 @@ use Rattle.rows.specs.WriteRow.{writesRowPlanned, writesRow}
 use Rattle.rows.specs.WriteRow as Written
 use Rattle.rows.specs.ReadRow.{gather, readsRowPlanned, readsRow}
 use Rattle.rows.specs.Reader.{next, nextPlanned, nextOf}
-use Rattle.lines.specs.Ascii.{bytes}
-use Rattle.lines.specs.Numeral.{run, valueFrom, wellFormed, numeral}
-use Rattle.lines.specs.Decimal.{decimalBy, decimal}
-use Rattle.lines.specs.Line.{ended, words, numberOf as numberOfWord, numbersOf, lineAt}
-use Rattle.pages.specs.Texts.{unreadableText, numberText, numberLine, itemText, refusedText, refusedLine, refusedItem, itemsText, spaced, cellsText}
-use Rattle.calling.specs.Line.{readable, wordSize, same}
-use Rattle.calling.specs.Calls.{checkText, readText, writeText, rowText, asksBy, asksText, caseText, askText, wayText, callOf, callText, lineText}
+use Rattle.texts.specs.Ascii.{bytes}
+use Rattle.texts.specs.Numeral.{run, valueFrom, wellFormed, numeral}
+use Rattle.texts.specs.Decimal.{decimalBy, decimal}
+use Rattle.texts.specs.Line.{ended, words, numberOf as numberOfWord, numbersOf, lineAt}
+use Rattle.texts.specs.Line.{spaced}
+use Rattle.texts.specs.Said.{unreadableText, refusedText, refusedLine}
+use Rattle.asking.specs.Texts.{numberText, numberLine, itemText, refusedItem, itemsText, cellsText}
+use Rattle.calling.specs.Line.{readable, wordSize}
+use Rattle.asking.specs.Same.{same}
+use Rattle.case_calls.specs.Check.{checkText}
+use Rattle.case_calls.specs.Read.{readText}
+use Rattle.case_calls.specs.Write.{writeText, caseText}
+use Rattle.row_calls.specs.Rows.{rowText, writeRowText, readRowText}
+use Rattle.row_calls.specs.Reader.{asksBy, asksText}
+use Rattle.calling.specs.Calls.{checkCall, askText, alone, wayText, chosen, lineText}
 use Rattle.calling.specs.Input.{lineSize, after, lineOf, tableAt, saidAt, nextAt, nextKnown, printedBy, printed}
 
 data Print : Type 0 where
@@ -51,5 +59,5 @@ prints =
     ∷ []
 
 worked : map asked prints ≡ map expected prints
-unfolding walking fitted frontOf walks writes found finds reads writesRowPlanned writesRow Written.inTurn Written.rowOf gather readsRowPlanned readsRow next nextPlanned nextOf run valueFrom wellFormed numeral decimalBy decimal ended words numberOfWord numbersOf lineAt unreadableText numberText numberLine itemText refusedText refusedLine refusedItem itemsText spaced cellsText readable wordSize same checkText readText writeText rowText asksBy asksText caseText askText wayText callOf callText lineText lineSize after lineOf tableAt saidAt nextAt nextKnown printedBy printed
+unfolding walking fitted frontOf walks writes found finds reads writesRowPlanned writesRow Written.inTurn Written.rowOf gather readsRowPlanned readsRow next nextPlanned nextOf run valueFrom wellFormed numeral decimalBy decimal ended words numberOfWord numbersOf lineAt unreadableText numberText numberLine itemText refusedText refusedLine refusedItem itemsText spaced cellsText readable wordSize same checkText readText writeText caseText rowText writeRowText readRowText asksBy asksText checkCall askText alone wayText chosen lineText lineSize after lineOf tableAt saidAt nextAt nextKnown printedBy printed
 worked = refl

@@ -3,18 +3,17 @@
 --   tableAt, tableText           what the two lines after `table` make known, and what they print
 --   saidAt, nextAt, nextKnown    what the line at a place prints, the place of the next, and what is known there
 --   printedBy, printed           what the lines from a place on print, and a whole input
---   Waits                        all of a text was put on a page that was empty
 -- Assumes nothing.
 use mathlib.Core.Bool.{Bool, cond}
 use mathlib.Core.List.{List, [], _∷_, _++_}
 use Prim.Native.Nat.{ℕ, zero, suc, _+_}
 use lib.Dec.{eqb, leb}
 use lib.ListN.{length, take, drop}
-use Rattle.lines.specs.Ascii.{bytes, lf}
-use Rattle.lines.specs.Line.{Reading, numbers, unreadable, lineAt, within}
-use Rattle.pages.specs.Page.{Puts}
-use Rattle.pages.specs.Texts.{unreadableText}
-use Rattle.calling.specs.Line.{readable, same}
+use Rattle.texts.specs.Ascii.{bytes, lf}
+use Rattle.texts.specs.Line.{Reading, numbers, unreadable, lineAt, within}
+use Rattle.texts.specs.Said.{unreadableText}
+use Rattle.asking.specs.Same.{same}
+use Rattle.calling.specs.Line.{readable}
 use Rattle.calling.specs.Calls.{Known, about, nothing, lineText}
 
 unfoldable pub lineSize : List ℕ → ℕ
@@ -68,7 +67,3 @@ printedBy (suc f) text at known = cond (leb (length text) at) [] (saidAt text at
 -- "Input longer than the limit, or whose last line has no LF, prints only `unreadable`."
 unfoldable pub printed : List ℕ → List ℕ
 printed text = cond (readable text) (printedBy (suc (length text)) text 0 nothing) unreadableText
-
-pub record Waits (text page : List ℕ) (used : ℕ) : Type 0 where
-  pub empty : List ℕ
-  pub puts : Puts text empty 0 page used

@@ -1,5 +1,4 @@
 -- What the contracts of the calls from a shell cite.
-pub mod Asked
 pub mod Line
 pub mod Calls
 pub mod Input

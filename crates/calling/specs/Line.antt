@@ -1,7 +1,6 @@
 -- The lines of a text.
 --   readable   an input as a whole: not too long, and each line ended by LF
 --   wordSize   how many bytes stand before the first space or LF
---   same       whether two texts are the same
 -- Assumes nothing.
 use mathlib.Core.Bool.{Bool, true, false, _&&_, _||_}
 use mathlib.Core.List.{List, [], _∷_}
@@ -24,9 +23,3 @@ ends b = eqb b 32 || eqb b 10
 unfoldable pub wordSize : List ℕ → ℕ
 wordSize [] = 0
 wordSize (b ∷ bs) = elim (ends b) [ true ↦ 0 | false ↦ 1 + wordSize bs ]
-
-unfoldable pub same : List ℕ → List ℕ → Bool
-same [] [] = true
-same [] (y ∷ ys) = false
-same (x ∷ xs) [] = false
-same (x ∷ xs) (y ∷ ys) = eqb x y && same xs ys

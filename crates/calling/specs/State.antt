@@ -9,7 +9,7 @@ use mathlib.Core.Bool.{cond}
 use mathlib.Core.List.{List}
 use Prim.Native.Nat.{ℕ, _≤_}
 use lib.ListN.{length, take}
-use Rattle.pages.specs.Page.{Puts}
+use Rattle.texts.specs.Page.{Puts}
 use Rattle.calling.specs.Calls.{Known, about, nothing}
 use Rattle.calling.specs.Input.{after, mostTableWords, mostPoolWords, tableAt, tableText, saidAt, nextAt, nextKnown}
 use Rattle.calling.specs.declared.state.State.{State}

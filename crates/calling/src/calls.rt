@@ -1,58 +1,20 @@
-// The calls by their words. The `answer` of `check`, `write`, `cells` or `row` is handed the rest of the
-// line: a space before each field, and LF.
-ghost use mathlib.Core.Path.{_≡_};
+// The calls by their words. Each is handed the rest of its line: a space before each field, and LF.
 ghost use Prim.Native.Nat.{_≤_};
 ghost use lib.ListN.{length};
-ghost use Rattle.pages.specs.Page.{Puts};
-ghost use Rattle.calling.specs.Calls.{callOf, callText, lineText};
+ghost use Rattle.texts.specs.Page.{Puts};
+ghost use Rattle.calling.specs.Calls.{checkCall, rowCalls, calls, chosen, lineText};
 ghost use Rattle.calling.specs.State.{knownOf};
-use super::asked::MOST_ROOM;
 use super::cells;
 use super::cells::Ask;
-use super::check;
-use super::line::MOST_FIELDS;
-use super::line::same;
+use super::lent;
+use super::lent::Way;
 use super::line::word_size;
-use super::row;
-use super::row::Way;
 use super::state::State;
-use super::write;
-use pages::answers::unreadable;
-use pages::page::PAGE_BYTES;
-
-enum Call {
-    Check,
-    Write,
-    Read,
-    WriteRow,
-    ReadRow,
-    Reader,
-    Unknown,
-}
-
-fn call_of(word: &[u8]) -> Call
-    ensures { λ r. ⌜ r ≡ callOf (now (word .entry)) ⌝ }
-{
-    if same(word, b"check") {
-        return Call::Check;
-    }
-    if same(word, b"write") {
-        return Call::Write;
-    }
-    if same(word, b"read") {
-        return Call::Read;
-    }
-    if same(word, b"write-row") {
-        return Call::WriteRow;
-    }
-    if same(word, b"read-row") {
-        return Call::ReadRow;
-    }
-    if same(word, b"reader") {
-        return Call::Reader;
-    }
-    Call::Unknown
-}
+use asking::fields::MOST_FIELDS;
+use asking::fields::MOST_ROOM;
+use asking::same::same;
+use texts::page::PAGE_BYTES;
+use texts::said::unreadable;
 
 // A call of a line, about the known table.
 pub fn answer(
@@ -75,9 +37,8 @@ pub fn answer(
     let table_words = state.table;
     let pool_words = state.pool;
     let size = word_size(line);
-    let call = call_of(&line[..size]);
-    answer_call(
-        call,
+    case_call(
+        &line[..size],
         &line[size..],
         &table[..table_words],
         &pool[..pool_words],
@@ -88,8 +49,9 @@ pub fn answer(
     )
 }
 
-fn answer_call(
-    call: Call,
+// The calls on one case.
+fn case_call(
+    word: &[u8],
     rest: &[u8],
     table: &[u64],
     pool: &[u64],
@@ -98,15 +60,59 @@ fn answer_call(
     page: &mut [u8; PAGE_BYTES],
     used: usize,
 ) -> usize
-    ensures { λ r. ⌜ Puts (callText (now (table .entry)) (now (pool .entry)) call (now (rest .entry))) (now (page .entry)) used (now (page .exit)) r ⌝ }
+    ensures { λ r. ⌜ Puts (chosen (now (word .entry)) (calls (now (table .entry)) (now (pool .entry)) (now (rest .entry)))) (now (page .entry)) used
+        (now (page .exit)) r ⌝ }
 {
-    match call {
-        Call::Check => check::answer(rest, table, pool, page, used),
-        Call::Write => write::answer(rest, table, pool, fields, buffer, page, used),
-        Call::Read => cells::answer(Ask::Case, rest, table, pool, fields, page, used),
-        Call::WriteRow => row::answer(Way::Write, rest, table, pool, fields, buffer, page, used),
-        Call::ReadRow => row::answer(Way::Read, rest, table, pool, fields, buffer, page, used),
-        Call::Reader => cells::answer(Ask::Items, rest, table, pool, fields, page, used),
-        Call::Unknown => unreadable(page, used),
+    if same(word, b"check") {
+        return check(rest, table, pool, page, used);
     }
+    if same(word, b"write") {
+        return lent::answer(Way::Write, rest, table, pool, fields, buffer, page, used);
+    }
+    if same(word, b"read") {
+        return cells::answer(Ask::Read, rest, table, pool, fields, page, used);
+    }
+    row_call(word, rest, table, pool, fields, buffer, page, used)
+}
+
+// The calls on rows.
+fn row_call(
+    word: &[u8],
+    rest: &[u8],
+    table: &[u64],
+    pool: &[u64],
+    fields: &mut [u64; MOST_FIELDS],
+    buffer: &mut [u64; MOST_ROOM],
+    page: &mut [u8; PAGE_BYTES],
+    used: usize,
+) -> usize
+    ensures { λ r. ⌜ Puts (chosen (now (word .entry)) (rowCalls (now (table .entry)) (now (pool .entry)) (now (rest .entry)))) (now (page .entry)) used
+        (now (page .exit)) r ⌝ }
+{
+    if same(word, b"write-row") {
+        return lent::answer(Way::WriteRow, rest, table, pool, fields, buffer, page, used);
+    }
+    if same(word, b"read-row") {
+        return lent::answer(Way::ReadRow, rest, table, pool, fields, buffer, page, used);
+    }
+    if same(word, b"reader") {
+        return cells::answer(Ask::Reader, rest, table, pool, fields, page, used);
+    }
+    unreadable(page, used)
+}
+
+// `check` has no fields.
+fn check(
+    rest: &[u8],
+    table: &[u64],
+    pool: &[u64],
+    page: &mut [u8; PAGE_BYTES],
+    used: usize,
+) -> usize
+    ensures { λ r. ⌜ Puts (checkCall (now (table .entry)) (now (pool .entry)) (now (rest .entry))) (now (page .entry)) used (now (page .exit)) r ⌝ }
+{
+    if !same(rest, b"\n") {
+        return unreadable(page, used);
+    }
+    case_calls::check::answer(table, pool, page, used)
 }

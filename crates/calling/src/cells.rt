@@ -1,28 +1,22 @@
-// `read START CELL CELL ..`: the number of a case, from its cells; and
-// `reader START CELL CELL ..`: the cases of a row, asked for one at a time.
+// The calls whose line is START CELL CELL ..
 ghost use Prim.Native.Nat.{_-_, _≤_};
 ghost use lib.ListN.{length, take, drop};
-ghost use Rattle.cases.specs.Read.{reads};
-ghost use Rattle.pages.specs.Page.{Puts};
-ghost use Rattle.calling.specs.Asked.{fieldsOf};
-ghost use Rattle.calling.specs.Calls.{withCells, readText, asksText, askText};
-use super::asked::AFTER_START;
-use super::asked::Taken;
-use super::asked::take;
-use super::line::MOST_FIELDS;
-use cases::Found;
-use pages::answers::item_line;
-use pages::answers::number_line;
-use pages::answers::refused_line;
-use pages::answers::unreadable;
-use pages::page::PAGE_BYTES;
-use pages::page::put_text;
-use rows::Next;
+ghost use Rattle.texts.specs.Page.{Puts};
+ghost use Rattle.asking.specs.Fields.{fieldsOf};
+ghost use Rattle.asking.specs.Forms.{withCells};
+ghost use Rattle.calling.specs.Calls.{askText};
+use asking::fields::AFTER_START;
+use asking::fields::MOST_FIELDS;
+use asking::fields::Taken;
+use asking::fields::take;
+use case_calls::read;
+use row_calls::reader;
+use texts::page::PAGE_BYTES;
+use texts::said::unreadable;
 
-// For the number of one whole case, or for each item of a row.
 pub enum Ask {
-    Case,
-    Items,
+    Read,
+    Reader,
 }
 
 pub fn answer(
@@ -82,55 +76,7 @@ fn call(
     ensures { λ r. ⌜ Puts (askText ask (now (table .entry)) (now (pool .entry)) start (now (cells .entry))) (now (page .entry)) used (now (page .exit)) r ⌝ }
 {
     match ask {
-        Ask::Case => read(table, pool, start, cells, page, used),
-        Ask::Items => ask_on(table, pool, start, cells, page, used),
-    }
-}
-
-fn read(
-    table: &[u64],
-    pool: &[u64],
-    start: usize,
-    cells: &[u64],
-    page: &mut [u8; PAGE_BYTES],
-    used: usize,
-) -> usize
-    ensures { λ r. ⌜ Puts (readText (reads (now (table .entry)) (now (pool .entry)) start (now (cells .entry)))) (now (page .entry)) used (now (page .exit)) r
-        ⌝ }
-{
-    match cases::read(table, pool, start, cells) {
-        Found::Number(found) => number_line(page, used, found),
-        Found::Refused(refusal, node) => refused_line(page, used, refusal, node),
-    }
-}
-
-// Asks until the row's end or a refusal: an item moves the place on, so one of the two comes.
-fn ask_on(
-    table: &[u64],
-    pool: &[u64],
-    start: usize,
-    row: &[u64],
-    page: &mut [u8; PAGE_BYTES],
-    used: usize,
-) -> usize
-    ensures { λ r. ⌜ Puts (asksText (now (table .entry)) (now (pool .entry)) start (now (row .entry))) (now (page .entry)) used (now (page .exit)) r ⌝ }
-{
-    let mut waiting = used;
-    let mut at: usize = 0;
-    loop {
-        let stride = rows::read_at(table, pool, start, row, at);
-        let handed = stride.answer;
-        match handed {
-            Next::Item(found, cells) => {
-                waiting = item_line(page, waiting, found, cells);
-                at = stride.at;
-            }
-            Next::End => {
-                return put_text(page, waiting, b"end\n");
-            }
-            Next::Refused(refusal, node) => {
-                return refused_line(page, waiting, refusal, node);
-            }
-        }
+        Ask::Read => read::answer(table, pool, start, cells, page, used),
+        Ask::Reader => reader::answer(table, pool, start, cells, page, used),
     }
 }

@@ -1,30 +1,29 @@
 // Every public call from a shell: the lines of an input, and what each call prints. Nothing is
 // decided here: words are lent, a call is made, and what came back is printed.
-mod asked;
 mod calls;
 mod cells;
-mod check;
+mod lent;
 mod line;
-mod row;
 mod state;
-mod write;
 
 ghost use mathlib.Core.Path.{_≡_};
 ghost use Prim.Native.Nat.{_<_};
 ghost use lib.ListN.{length};
-ghost use Rattle.calling.specs.Input.{printed, Waits};
+ghost use Rattle.texts.specs.Page.{Waits};
+ghost use Rattle.calling.specs.Input.{printed};
 ghost use Rattle.calling.specs.Line.{readable as isReadable};
 ghost use Rattle.calling.specs.State.{Within, Turns};
-use asked::MOST_ROOM;
+use asking::fields::MOST_FIELDS;
+use asking::fields::MOST_ROOM;
+use asking::same::same;
 use libc::STDIN_FILENO;
-use line::MOST_FIELDS;
-use lines::ascii::LF;
-use pages::answers;
-use pages::page;
-use pages::page::PAGE_BYTES;
 use state::MOST_POOL_WORDS;
 use state::MOST_TABLE_WORDS;
 use state::State;
+use texts::ascii::LF;
+use texts::page;
+use texts::page::PAGE_BYTES;
+use texts::said;
 
 // One byte more than the longest input, to see that an input is longer: it is unreadable as a whole.
 pub const INPUT_ROOM: usize = 4194305;
@@ -42,7 +41,7 @@ fn answer_all(text: &[u8]) {
     let mut page = [0u8; PAGE_BYTES];
     let mut state = state::without_table(0, 0);
     if !readable(text) {
-        let waiting = answers::unreadable(&mut page, state.used);
+        let waiting = said::unreadable(&mut page, state.used);
         finish(text, &page, waiting);
         return;
     }
@@ -103,7 +102,7 @@ fn answer_line(
     let at = state.at;
     let next = line::after(text, at);
     let line = &text[at..next];
-    if line::same(line, b"table\n") {
+    if same(line, b"table\n") {
         return state::take_table(text, next, state.used, table, pool, page);
     }
     let used = calls::answer(line, state, table, pool, fields, buffer, page);

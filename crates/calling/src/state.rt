@@ -5,10 +5,10 @@ ghost use Prim.Native.Nat.{_≤_};
 ghost use lib.ListN.{length};
 ghost use Rattle.calling.specs.State.{Tables};
 use super::line::after;
-use lines::line::Line;
-use lines::line::numbers_at;
-use pages::answers::unreadable;
-use pages::page::PAGE_BYTES;
+use texts::line::Line;
+use texts::line::numbers_at;
+use texts::page::PAGE_BYTES;
+use texts::said::unreadable;
 
 // More than the check accepts, so that its own limits can be tried from outside.
 pub const MOST_TABLE_WORDS: usize = 1024;

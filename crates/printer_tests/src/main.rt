@@ -2,8 +2,8 @@
 // bytes. What an input prints is followed by a line `--`.
 use libc::STDIN_FILENO;
 use libc::STDOUT_FILENO;
-use lines::numeral::Numeral;
-use lines::numeral::number_at;
+use texts::numeral::Numeral;
+use texts::numeral::number_at;
 
 const INPUT_ROOM: usize = 1048576;
 

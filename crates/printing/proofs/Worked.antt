@@ -8,11 +8,12 @@ use Prim.Native.String.{String}
 use Rattle.walk.proofs.Opened.{walking}
 use Rattle.checked.specs.Fits.{fitted}
 use Rattle.cases.specs.Write.{walks, writes}
-use Rattle.lines.specs.Ascii.{bytes}
-use Rattle.lines.specs.Numeral.{run, valueFrom, wellFormed, numeral}
-use Rattle.lines.specs.Decimal.{decimalBy, decimal}
-use Rattle.lines.specs.Line.{ended, words, numberOf as numberOfWord, numbersOf, lineAt, lineText}
-use Rattle.printing.specs.Texts.{unreadableText, refusedText, caseText, caseRefusedText}
+use Rattle.texts.specs.Ascii.{bytes}
+use Rattle.texts.specs.Numeral.{run, valueFrom, wellFormed, numeral}
+use Rattle.texts.specs.Decimal.{decimalBy, decimal}
+use Rattle.texts.specs.Line.{ended, words, numberOf as numberOfWord, numbersOf, lineAt, lineText}
+use Rattle.texts.specs.Said.{unreadableText, refusedText, refusedLine}
+use Rattle.printing.specs.Texts.{caseText, caseRefusedText}
 use Rattle.printing.specs.Input.{tableLine, poolLine, oneAt, numbersBy, numbersFrom, inputOf}
 use Rattle.printing.specs.Printed.{started, caseLine, casesOf, told, printed}
 
@@ -47,5 +48,5 @@ prints =
     ∷ []
 
 worked : map asked prints ≡ map expected prints
-unfolding walking fitted walks writes run valueFrom wellFormed numeral decimalBy decimal ended words numberOfWord numbersOf lineAt lineText unreadableText refusedText caseText caseRefusedText tableLine poolLine oneAt numbersBy numbersFrom inputOf started caseLine casesOf told printed
+unfolding walking fitted walks writes run valueFrom wellFormed numeral decimalBy decimal ended words numberOfWord numbersOf lineAt lineText unreadableText refusedText refusedLine caseText caseRefusedText tableLine poolLine oneAt numbersBy numbersFrom inputOf started caseLine casesOf told printed
 worked = refl

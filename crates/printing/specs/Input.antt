@@ -13,8 +13,8 @@ use mathlib.Core.Option.{Option, none, some, Option·map}
 use Prim.Native.Nat.{ℕ, zero, suc}
 use lib.Dec.{leb}
 use lib.ListN.{length}
-use Rattle.lines.specs.Line.{Reading, numbers, unreadable, lineAt, within, answer, stored}
-use Rattle.lines.specs.declared.line.Line.{Line}
+use Rattle.texts.specs.Line.{Reading, numbers, unreadable, lineAt, within, answer, stored}
+use Rattle.texts.specs.declared.line.Line.{Line}
 use Rattle.printing.specs.declared.input.One.{One}
 use Rattle.printing.specs.declared.input.One.the-variants.{Number, Not}
 use Rattle.printing.specs.declared.input.Asked.{Asked}

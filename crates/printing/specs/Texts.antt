@@ -1,6 +1,4 @@
--- The lines that are printed. 01: "Every printed line ends in LF."
---   unreadableText    "Anything else prints only `unreadable`."
---   refusedText       "`refused N at K`: refusal, node"
+-- The lines of a number. 01: "Every printed line ends in LF."
 --   caseText          "`case I: ` and its cells with single spaces"
 --   caseRefusedText   "or `case I refused N`; I is the number asked for"
 -- Assumes nothing.
@@ -8,19 +6,13 @@ use mathlib.Core.List.{List, _++_}
 use Prim.Native.Nat.{ℕ}
 use Rattle.grammar.specs.Refusals.{numberOf}
 use Rattle.grammar.specs.declared.refusal.Refusal.{Refusal}
-use Rattle.lines.specs.Ascii.{bytes}
-use Rattle.lines.specs.Decimal.{decimal}
-use Rattle.lines.specs.Line.{lineText}
-
-unfoldable pub unreadableText : List ℕ
-unreadableText = bytes "unreadable\n"
-
-unfoldable pub refusedText : Refusal → ℕ → List ℕ
-refusedText r k = (bytes "refused " ++ (decimal (numberOf r) ++ bytes " at ")) ++ (decimal k ++ bytes "\n")
+use Rattle.texts.specs.Ascii.{bytes}
+use Rattle.texts.specs.Decimal.{decimal}
+use Rattle.texts.specs.Line.{lineText}
 
 -- a line of numbers has single spaces and ends in LF
 unfoldable pub caseText : ℕ → List ℕ → List ℕ
-caseText n cs = (bytes "case " ++ (decimal n ++ bytes ": ")) ++ lineText cs
+caseText n cs = bytes "case " ++ decimal n ++ bytes ": " ++ lineText cs
 
 unfoldable pub caseRefusedText : ℕ → Refusal → List ℕ
-caseRefusedText n r = (bytes "case " ++ (decimal n ++ bytes " refused ")) ++ (decimal (numberOf r) ++ bytes "\n")
+caseRefusedText n r = bytes "case " ++ decimal n ++ bytes " refused " ++ decimal (numberOf r) ++ bytes "\n"

@@ -1,8 +1,8 @@
 // What an input asks for. All of it is read before anything is answered.
 ghost use mathlib.Core.Path.{_≡_};
 ghost use Rattle.printing.specs.Input.{oneAt, numbersFrom, readable, ReadTable, ReadInput};
-use lines::line::Line;
-use lines::line::numbers_at;
+use texts::line::Line;
+use texts::line::numbers_at;
 
 // "at most 65,536 bytes"; "Table and pool lines hold at most 768 and 4,096 numbers"
 const MOST_BYTES: usize = 65536;

@@ -1,56 +1,161 @@
-// What an input prints, on standard output: a page at a time, whole or not at all from there on.
-ghost use Rattle.printing.specs.Printed.{Left};
-use super::answers::Opened;
-use super::answers::PAGE_BYTES;
-use super::answers::Said;
-use super::answers::answer_at;
-use super::answers::opening;
+// What an input prints: all of it is put on a page, and `print_all` writes out what waits there.
+ghost use mathlib.Core.Path.{_≡_};
+ghost use Rattle.texts.specs.Page.{Puts, Waits};
+ghost use Rattle.printing.specs.Texts.{caseText, caseRefusedText};
+ghost use Rattle.printing.specs.Printed.{started, caseLine, printed, Judges, Answers};
+use super::input::Asked;
+use super::input::One;
 use super::input::POOL_WORDS;
 use super::input::TABLE_WORDS;
-use libc::STDOUT_FILENO;
+use super::input::one_at;
+use super::input::read_input;
+use cases::Written;
+use grammar::refusal::Refusal;
+use grammar::refusal::Verdict;
+use grammar::refusal::number_of;
+use texts::page::PAGE_BYTES;
+use texts::page::flush;
+use texts::page::put_line;
+use texts::page::put_number;
+use texts::page::put_text;
+use texts::said::refused_line;
+use texts::said::unreadable;
+
+// "The program has room for 4,096 cells, so a longer case is refused 14."
+const ROOM: usize = 4096;
 
 // Prints what an input asks for.
 pub fn print_all(text: &[u8]) {
     let mut table = [0u64; TABLE_WORDS];
     let mut pool = [0u64; POOL_WORDS];
     let mut page = [0u8; PAGE_BYTES];
-    match opening(text, &mut table, &mut pool, &mut page) {
-        Opened::Whole(size) => {
-            io::write_all(STDOUT_FILENO, &page[..size]);
+    let used = answer(text, &mut table, &mut pool, &mut page);
+    finish(text, &page, used);
+}
+
+// Writes out what waits. What is written is in no contract, so the caller has to show that it is what
+// the text prints.
+fn finish(text: &[u8], page: &[u8; PAGE_BYTES], used: usize)
+    requires { ⌜ Waits (printed (now text)) (now page) used ⌝ }
+{
+    flush(page, used);
+}
+
+// Reads a whole input. "Anything else prints only `unreadable`."
+fn answer(
+    text: &[u8],
+    table: &mut [u64; TABLE_WORDS],
+    pool: &mut [u64; POOL_WORDS],
+    page: &mut [u8; PAGE_BYTES],
+) -> usize
+    ensures { λ r. ⌜ Puts (printed (now (text .entry))) (now (page .entry)) 0 (now (page .exit)) r ⌝ }
+{
+    match read_input(text, table, pool) {
+        Asked::Cases(table_count, pool_count, first, from) => {
+            let words: &[u64] = table;
+            let codes: &[u64] = pool;
+            judge(
+                text,
+                from,
+                &words[..table_count],
+                &codes[..pool_count],
+                first as usize,
+                page,
+            )
         }
-        Opened::Cases(table_count, pool_count, first, from) => print_cases(
-            text,
-            from,
-            &table[..table_count],
-            &pool[..pool_count],
-            first,
-            &mut page,
-        ),
+        Asked::Unreadable => unreadable(page, 0),
     }
 }
 
-// A line for each number from a place on; a write that fails ends it.
-fn print_cases(
+// The print of an accepted table's input is that of its numbers; of any other it is one line.
+fn judge(
     text: &[u8],
     from: usize,
     table: &[u64],
     pool: &[u64],
     first: usize,
     page: &mut [u8; PAGE_BYTES],
-)
-    requires { ⌜ Left (now text) (now table) (now pool) first from ⌝ }
+) -> usize
+    ensures { λ r. ⌜ Judges (now (text .entry)) from (now (table .entry)) (now (pool .entry)) first (now (page .entry)) (now (page .exit)) r ⌝ }
 {
+    match start(table, pool, first) {
+        Verdict::Accepted => put_cases(text, from, table, pool, first, page),
+        Verdict::Refused(r, k) => refused_line(page, 0, r, k),
+    }
+}
+
+// "A refused table or start prints only `refused N at K`"
+fn start(table: &[u64], pool: &[u64], start: usize) -> Verdict
+    ensures { λ r. ⌜ r ≡ started (now (table .entry)) (now (pool .entry)) start ⌝ }
+{
+    match cases::check(table, pool) {
+        Verdict::Accepted => {
+            if table.len() / 3 <= start {
+                return Verdict::Refused(Refusal::NoSuchStart, 0);
+            }
+            Verdict::Accepted
+        }
+        Verdict::Refused(r, k) => Verdict::Refused(r, k),
+    }
+}
+
+// A line for each number from a place on.
+fn put_cases(
+    text: &[u8],
+    from: usize,
+    table: &[u64],
+    pool: &[u64],
+    first: usize,
+    page: &mut [u8; PAGE_BYTES],
+) -> usize
+    ensures { λ r. ⌜ Answers (now (text .entry)) from (now (table .entry)) (now (pool .entry)) first (now (page .entry)) (now (page .exit)) r ⌝ }
+{
+    let mut used = 0;
     let mut at = from;
     loop {
-        match answer_at(text, at, table, pool, first, page) {
-            Said::Line(size, next) => {
-                let line: &[u8] = page;
-                if !io::write_all(STDOUT_FILENO, &line[..size]) {
-                    return;
-                }
+        match one_at(text, at) {
+            One::Number(n, next) => {
+                used = put_answer(table, pool, first, n, page, used);
                 at = next;
             }
-            Said::Nothing => return,
+            One::Not => return used,
         }
     }
+}
+
+// "Otherwise each number prints `case I: ` and its cells with single spaces, or `case I refused N`"
+fn put_answer(
+    table: &[u64],
+    pool: &[u64],
+    first: usize,
+    n: u64,
+    page: &mut [u8; PAGE_BYTES],
+    used: usize,
+) -> usize
+    ensures { λ r. ⌜ Puts (caseLine (now (table .entry)) (now (pool .entry)) first n) (now (page .entry)) used (now (page .exit)) r ⌝ }
+{
+    let mut cells = [0u64; ROOM];
+    match cases::write(table, pool, first, n, &mut cells) {
+        Written::Done(count) => put_case(page, used, n, &cells[..count]),
+        Written::Refused(r, _) => put_case_refused(page, used, n, r),
+    }
+}
+
+fn put_case(page: &mut [u8; PAGE_BYTES], used: usize, n: u64, cells: &[u64]) -> usize
+    ensures { λ r. ⌜ Puts (caseText n (now (cells .entry))) (now (page .entry)) used (now (page .exit)) r ⌝ }
+{
+    let named = put_text(page, used, b"case ");
+    let numbered = put_number(page, named, n);
+    let parted = put_text(page, numbered, b": ");
+    put_line(page, parted, cells)
+}
+
+fn put_case_refused(page: &mut [u8; PAGE_BYTES], used: usize, n: u64, refusal: Refusal) -> usize
+    ensures { λ r. ⌜ Puts (caseRefusedText n refusal) (now (page .entry)) used (now (page .exit)) r ⌝ }
+{
+    let named = put_text(page, used, b"case ");
+    let numbered = put_number(page, named, n);
+    let said = put_text(page, numbered, b" refused ");
+    let placed = put_number(page, said, number_of(refusal));
+    put_text(page, placed, b"\n")
 }

@@ -8,10 +8,10 @@ use Prim.Native.Nat.{ℕ, suc, _≤_, _<_}
 use native.Mathlib.Omega.{arith}
 use lib.ListN.{length, getD, drop}
 use borrow.Author.Tests.{le-leb, lt-leb}
-use Rattle.lines.specs.Line.{Reading, numbers, unreadable, lineAt, within, answer, stored, ReadLine}
-use Rattle.lines.specs.declared.line.Line.{Line}
-use Rattle.lines.specs.declared.line.Line.the-variants.{Numbers, Unreadable}
-use Rattle.lines.proofs.line.Outcomes.{read-numbers, read-unreadable}
+use Rattle.texts.specs.Line.{Reading, numbers, unreadable, lineAt, within, answer, stored, ReadLine}
+use Rattle.texts.specs.declared.line.Line.{Line}
+use Rattle.texts.specs.declared.line.Line.the-variants.{Numbers, Unreadable}
+use Rattle.texts.proofs.line.Outcomes.{read-numbers, read-unreadable}
 use Rattle.printing.specs.Input.{mostBytes, tableWords, notEmpty, tableLine, alone, oneAt, ReadTable}
 use Rattle.printing.specs.declared.input.One.the-variants.{Number, Not}
 

@@ -12,8 +12,8 @@ use native.Mathlib.Omega.{arith}
 use lib.Dec.{leb}
 use lib.ListN.{length}
 use borrow.Author.Tests.{le-leb, lt-leb, leb-false}
-use Rattle.lines.specs.Line.{Reading, numbers, unreadable, lineAt}
-use Rattle.lines.proofs.line.Laws.{line-within}
+use Rattle.texts.specs.Line.{Reading, numbers, unreadable, lineAt}
+use Rattle.texts.proofs.line.Laws.{line-within}
 use Rattle.printing.specs.Input.{alone, oneAt, further, numbersBy, numbersFrom, readable}
 use Rattle.printing.specs.declared.input.One.{One}
 use Rattle.printing.specs.declared.input.One.the-variants.{Number, Not}

@@ -9,9 +9,9 @@ use mathlib.Core.Option.{Option, none, some}
 use Prim.Native.Nat.{ℕ}
 use native.Mathlib.Omega.{arith}
 use lib.ListN.{length}
-use Rattle.lines.specs.Line.{Reading, numbers, unreadable, answer, ReadLine}
-use Rattle.lines.specs.declared.line.Line.{Line}
-use Rattle.lines.specs.declared.line.Line.the-variants.{Numbers, Unreadable}
+use Rattle.texts.specs.Line.{Reading, numbers, unreadable, answer, ReadLine}
+use Rattle.texts.specs.declared.line.Line.{Line}
+use Rattle.texts.specs.declared.line.Line.the-variants.{Numbers, Unreadable}
 use Rattle.printing.specs.Input.{poolWords, tableLine, poolLine, oneAt, numbersFrom, withNumbers, withStart, withPool, inputOf, ReadTable, readable, asked, poolStored, ReadInput}
 use Rattle.printing.specs.declared.input.One.{One}
 use Rattle.printing.specs.declared.input.One.the-variants.{Number, Not}

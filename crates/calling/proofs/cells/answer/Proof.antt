@@ -3,9 +3,9 @@
 use borrow.Author.Needs.{needs}
 use mathlib.Core.Path.{refl}
 use native.Mathlib.Omega.{arith}
-use Rattle.calling.proofs.Taking.{taking}
-use Rattle.calling.proofs.Fields.{cells-none, cells-text}
-use Rattle.calling.proofs.Answers.{told}
+use Rattle.asking.proofs.Taking.{taking}
+use Rattle.asking.proofs.Forms.{cells-none, cells-text}
+use Rattle.texts.proofs.page.Putting.{told}
 use Rattle.calling.proofs.cells.answer.Statement.{statement}
 use Rattle.calling.proofs.cells.answer.Tie as tie
 

@@ -14,5 +14,5 @@ call-spec =
     (λ c κs. search needs)
     (λ c. search needs)
     (λ c κs. search needs)
-    (λ c. rw (c .before .before .enum-told .given .1) (c .read .ensures))
-    (λ c. rw (c .before .before .enum-told2 .given .1) (c .ask-on .ensures)))
+    (λ c. rw (c .before .before .enum-told .given .1) (c .answer .ensures))
+    (λ c. rw (c .before .before .enum-told2 .given .1) (c .answer2 .ensures)))

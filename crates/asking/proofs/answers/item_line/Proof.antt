@@ -1,0 +1,21 @@
+-- `asking::answers::item_line` puts its parts one behind another.
+-- Assumes nothing.
+use borrow.Author.Needs.{needs}
+use Rattle.texts.proofs.page.Putting.{_then_}
+use Rattle.asking.specs.Texts.{itemText}
+use Rattle.asking.proofs.answers.item_line.Statement.{statement}
+use Rattle.asking.proofs.answers.item_line.Tie as tie
+
+pub item-line-spec : {M : Type 1} → statement M
+unfolding itemText
+item-line-spec =
+    tie.close
+    (tie.spec
+    (λ c κs. search needs)
+    (λ c. search needs)
+    (λ c κs. search needs)
+    (λ c κs. search needs)
+    (λ c. search needs)
+    (λ c κs. search needs)
+    (λ c. c .before .before .before .before .before .before .before .before .number .ensures then c .before .before .before .before .before .put-text .ensures
+    then c .before .before .before .put-number .ensures then c .put-text2 .ensures))

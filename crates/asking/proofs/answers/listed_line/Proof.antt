@@ -1,0 +1,23 @@
+-- `asking::answers::listed_line` puts its parts one behind another.
+-- Assumes nothing.
+use borrow.Author.Needs.{needs}
+use native.Mathlib.Omega.{arith}
+use lib.ListN.{length-take}
+use Rattle.texts.proofs.page.Putting.{_then_}
+use Rattle.asking.specs.Texts.{cellsText}
+use Rattle.asking.proofs.answers.listed_line.Statement.{statement}
+use Rattle.asking.proofs.answers.listed_line.Tie as tie
+
+pub listed-line-spec : {M : Type 1} → statement M
+unfolding cellsText
+listed-line-spec =
+    tie.close
+    (tie.spec
+    (λ c κs. search needs)
+    (λ c. search needs)
+    (λ c κs. search needs)
+    (λ c. simp length-take (omega arith))
+    (λ c κs. search needs)
+    (λ c κs. search needs)
+    (λ c. c .before .before .before .before .before .before .before .before .put-number .ensures then
+    c .before .before .before .before .before .put-text .ensures then c .before .before .put-numbers .ensures then c .end-line .ensures))

@@ -1,0 +1,20 @@
+-- `asking::answers::refused_at_item` puts its parts one behind another.
+-- Assumes nothing.
+use borrow.Author.Needs.{needs}
+use Rattle.texts.proofs.page.Putting.{_then_}
+use Rattle.asking.specs.Texts.{refusedItem}
+use Rattle.asking.proofs.answers.refused_at_item.Statement.{statement}
+use Rattle.asking.proofs.answers.refused_at_item.Tie as tie
+
+pub refused-at-item-spec : {M : Type 1} → statement M
+unfolding refusedItem
+refused-at-item-spec =
+    tie.close
+    (tie.spec
+    (λ c κs. search needs)
+    (λ c. search needs)
+    (λ c κs. search needs)
+    (λ c κs. search needs)
+    (λ c κs. search needs)
+    (λ c. c .before .before .before .before .before .before .before .refused .ensures then c .before .before .before .before .put-text .ensures then
+    c .before .before .put-number .ensures then c .end-line .ensures))

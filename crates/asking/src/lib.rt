@@ -1,0 +1,6 @@
+// What more than one call stands on: the fields of its line, the buffer that is lent to it, and the texts
+// that calls print.
+pub mod answers;
+pub mod buffer;
+pub mod fields;
+pub mod same;

@@ -1,0 +1,3 @@
+-- What the calls on one case have printed.
+mod Answered
+mod Writing

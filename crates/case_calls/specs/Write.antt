@@ -1,0 +1,30 @@
+-- What `write` prints and leaves in the lent buffer, as calls.md has it.
+--   writeText     of an answer, and of the words that the call wrote
+--   caseText      of a number, with a buffer of so many words
+--   PrintsCase    what is put on the page, and the words of the buffer
+-- Assumes nothing.
+use mathlib.Core.Path.{_≡_}
+use mathlib.Core.List.{List, _++_}
+use Prim.Native.Nat.{ℕ}
+use lib.ListN.{length}
+use Rattle.grammar.specs.Sizes.{rulesOf}
+use Rattle.walk.specs.Walk.{walk, cells, depth}
+use Rattle.cases.specs.Write.{writes, leaves}
+use Rattle.cases.specs.declared.writing.Written.{Written}
+use Rattle.cases.specs.declared.writing.Written.the-variants.{Done, Refused}
+use Rattle.texts.specs.Ascii.{bytes}
+use Rattle.texts.specs.Page.{Puts}
+use Rattle.texts.specs.Said.{refusedLine}
+use Rattle.asking.specs.Buffer.{startWords}
+use Rattle.asking.specs.Texts.{cellsText}
+
+unfoldable pub writeText : List ℕ → Written → List ℕ
+writeText cs (Done count) = cellsText count cs ++ bytes "\n"
+writeText cs (Refused r k) = refusedLine r k
+
+unfoldable pub caseText : List ℕ → List ℕ → ℕ → ℕ → ℕ → List ℕ
+caseText t p i room n = writeText (cells (walk (rulesOf t p) depth 0 i n)) (writes t p i n room)
+
+pub record PrintsCase (t p : List ℕ) (i n : ℕ) (old last page : List ℕ) (used : ℕ) (page' : List ℕ) (r : ℕ) : Type 0 where
+  pub puts : Puts (caseText t p i (length old) n) page used page' r
+  pub buffer : last ≡ leaves (writes t p i n (length old)) (cells (walk (rulesOf t p) depth 0 i n)) (startWords 0 (length old))

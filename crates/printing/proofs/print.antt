@@ -1,0 +1,5 @@
+-- What is printed, on a page.
+pub mod Lines
+mod Starts
+mod Cases
+mod Whole

@@ -1,0 +1,30 @@
+-- `printing::print::put_cases` goes from number to number, each further on in the text.
+-- Assumes nothing.
+use borrow.Author.Needs.{needs}
+use Prim.Native.Nat.{_-_}
+use native.Mathlib.Omega.{arith}
+use lib.ListN.{length}
+use Rattle.printing.proofs.print.Cases.{Going, go-none, go-further, go-more, go-all}
+use Rattle.printing.proofs.print.put_cases.Statement.{statement}
+use Rattle.printing.proofs.print.put_cases.Tie as tie
+
+abbrev Inv-loop : tie.InvT-loop
+Inv-loop text from table pool first page₀ used₀ at₀ page used at = Going text from table pool first page₀ page used at
+
+abbrev μ-loop : tie.MeasureT-loop
+μ-loop text from table pool first page₀ used₀ at₀ page used at = length text - at
+
+pub put-cases-spec : {M : Type 1} → statement M
+put-cases-spec =
+    tie.close
+    (tie.spec
+    Inv-loop
+    μ-loop
+    (λ c. go-none)
+    (λ c κs. search needs)
+    (λ c. search needs)
+    (λ c κs. search needs)
+    (λ c. let at-n = c .before .before .before in let at-one-at = at-n .before .before in let at-loop = at-one-at .before in omega (arith, go-further (at-loop .loop .inv) (at-one-at .one-at .ensures) (at-n .n .given .1)))
+    (λ c. let at-n = c .before .before .before in let at-one-at = at-n .before .before in let at-loop = at-one-at .before in go-more (at-loop .loop .inv) (at-one-at .one-at .ensures) (at-n .n .given .1) (c .put-answer .ensures))
+    (λ c. search needs)
+    (λ c. let at-one-at = c .before .before in let at-loop = at-one-at .before in go-all (at-loop .loop .inv) (at-one-at .one-at .ensures) (c .enum-told .given .1)))

@@ -1,3 +1,0 @@
--- How texts are put, and how long they are.
-mod Copying
-mod Putting

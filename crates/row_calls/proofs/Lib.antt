@@ -1,0 +1,3 @@
+-- What the calls on rows have printed.
+mod Rows
+mod Asking

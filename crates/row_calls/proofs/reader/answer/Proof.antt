@@ -1,0 +1,39 @@
+-- `row_calls::reader::answer` ends: each item moves the place on, and within the row.
+-- Assumes nothing.
+use borrow.Author.Needs.{needs}
+use Prim.Native.Nat.{_-_}
+use lib.ListN.{length}
+use Rattle.row_calls.proofs.Asking.{Asking, ask-none, nearer, ask-more, ask-end, ask-refused}
+use Rattle.row_calls.proofs.reader.answer.Statement.{statement}
+use Rattle.row_calls.proofs.reader.answer.Tie as tie
+use Rattle.rows.proofs.Values.{strode-is}
+
+abbrev Inv-loop : tie.InvT-loop
+Inv-loop table pool start row page₀ used waiting₀ at₀ t15 page waiting at = Asking table pool start row page₀ used page waiting at
+
+abbrev μ-loop : tie.MeasureT-loop
+μ-loop table pool start row page₀ used waiting₀ at₀ t15 page waiting at = length row - at
+
+pub answer-spec : {M : Type 1} → statement M
+answer-spec =
+    tie.close
+    (tie.spec
+    Inv-loop
+    μ-loop
+    (λ c. ask-none)
+    (λ c κs. search needs)
+    (λ c. search needs)
+    (λ c κs. search needs)
+    (λ c. nearer (c .before .before .before .before .before .before .loop .inv) (strode-is _ _ _ _ _ (c .before .before .before .before .before .read-at .ensures))
+    (c .before .before .before .handed .given .1))
+    (λ c. ask-more (c .before .before .before .before .before .before .loop .inv) (strode-is _ _ _ _ _ (c .before .before .before .before .before .read-at .ensures))
+    (c .before .before .before .handed .given .1) (c .item-line .ensures))
+    (λ c. search needs)
+    (λ c. search needs)
+    (λ c κs. search needs)
+    (λ c. ask-end (c .before .before .before .before .before .before .loop .inv) (strode-is _ _ _ _ _ (c .before .before .before .before .before .read-at .ensures))
+    (c .before .before .before .enum-told .given .1) (c .put-text .ensures))
+    (λ c. search needs)
+    (λ c κs. search needs)
+    (λ c. ask-refused (c .before .before .before .before .before .before .loop .inv) (strode-is _ _ _ _ _ (c .before .before .before .before .before .read-at .ensures))
+    (c .before .before .before .handed2 .given .1) (c .refused-line .ensures)))

@@ -1,0 +1,3 @@
+-- What the calls on rows print.
+pub mod Rows
+pub mod Reader

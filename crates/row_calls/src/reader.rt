@@ -1,0 +1,39 @@
+// `reader START CELL CELL ..`: the cases of a row, asked for one at a time.
+ghost use Rattle.texts.specs.Page.{Puts};
+ghost use Rattle.row_calls.specs.Reader.{asksText};
+use asking::answers::item_line;
+use rows::Next;
+use texts::page::PAGE_BYTES;
+use texts::page::put_text;
+use texts::said::refused_line;
+
+// Asks until the row's end or a refusal: an item moves the place on, so one of the two comes.
+pub fn answer(
+    table: &[u64],
+    pool: &[u64],
+    start: usize,
+    row: &[u64],
+    page: &mut [u8; PAGE_BYTES],
+    used: usize,
+) -> usize
+    ensures { λ r. ⌜ Puts (asksText (now (table .entry)) (now (pool .entry)) start (now (row .entry))) (now (page .entry)) used (now (page .exit)) r ⌝ }
+{
+    let mut waiting = used;
+    let mut at: usize = 0;
+    loop {
+        let stride = rows::read_at(table, pool, start, row, at);
+        let handed = stride.answer;
+        match handed {
+            Next::Item(found, cells) => {
+                waiting = item_line(page, waiting, found, cells);
+                at = stride.at;
+            }
+            Next::End => {
+                return put_text(page, waiting, b"end\n");
+            }
+            Next::Refused(refusal, node) => {
+                return refused_line(page, waiting, refusal, node);
+            }
+        }
+    }
+}

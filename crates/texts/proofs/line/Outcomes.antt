@@ -1,0 +1,54 @@
+-- What is known of a reading and of a line that was read, by the answer.
+--   readable-not, within-back       an unreadable line has no numbers; those within the room are the line's
+--   ReadNumbers, read-numbers       the answer Numbers: these numbers stand in the line and at the front
+--   read-unreadable                 the answer Unreadable: nothing has changed
+-- Assumes nothing.
+use mathlib.Core.Path.{_≡_, refl, sym, ap, _∙_}
+use mathlib.Core.Bool.{Bool, true, false, cond}
+use mathlib.Core.List.{List, _++_}
+use Prim.Native.Nat.{ℕ, _≤_}
+use native.Mathlib.Omega.{arith}
+use lib.Dec.{leb}
+use lib.ListN.{length, drop}
+use borrow.Author.Tests.{leb-true}
+use Rattle.texts.specs.Line.{Reading, numbers, unreadable, lineAt, within, answer, stored, ReadLine}
+use Rattle.texts.specs.declared.line.Line.{Line}
+use Rattle.texts.specs.declared.line.Line.the-variants.{Numbers, Unreadable}
+
+pub readable-not : {ns : List ℕ} {next : ℕ} → unreadable ≡ numbers ns next → ⊥
+readable-not e = let z : _≡_ {A = ℕ} 0 1 = cc in omega arith
+
+pub within-back : (room : ℕ) (x : Reading) {ns : List ℕ} {next : ℕ} → within room x ≡ numbers ns next → (x ≡ numbers ns next) × (length ns ≤ room)
+within-back room (numbers ms end) {ns} {next} e = by (leb (length ms) room) refl e
+  where
+    by : (q : Bool) → leb (length ms) room ≡ q → cond q (numbers ms end) unreadable ≡ numbers ns next → (numbers ms end ≡ numbers ns next) × (length ns ≤ room)
+    by true t f = let same : ms ≡ ns = cc in (f, rw same at (leb-true (length ms) room t))
+    by false t f = absurd (readable-not f)
+within-back room unreadable e = absurd (readable-not e)
+
+pub record ReadNumbers (text : List ℕ) (at : ℕ) (old last : List ℕ) (count next : ℕ) : Type 0 where
+  pub ns : List ℕ
+  pub is : lineAt text at ≡ numbers ns next
+  pub size : length ns ≡ count
+  pub room : count ≤ length old
+  pub leaves : last ≡ ns ++ drop count old
+
+module _ {text : List ℕ} {at : ℕ} {old last : List ℕ} {r : Line} (k : ReadLine text at old last r) where
+  pub read-numbers : {count next : ℕ} → r ≡ Numbers count next → ReadNumbers text at old last count next
+  read-numbers {count} {next} e = by (within (length old) (lineAt text at)) refl (sym (k .answers) ∙ e) (k .leaves)
+    where
+      by : (x : Reading) → within (length old) (lineAt text at) ≡ x → answer x ≡ Numbers count next → last ≡ stored old x
+          → ReadNumbers text at old last count next
+      by (numbers ns end) t f s =
+          let size : length ns ≡ count = cc in
+          let there : end ≡ next = cc in
+          let b = within-back (length old) (lineAt text at) t in
+          record { ns = ns; is = b .0 ∙ ap (numbers ns) there; size = size; room = rw size at (b .1); leaves = rw size at s }
+      by unreadable t f s = let z : _≡_ {A = ℕ} 0 1 = cc in absurd (omega arith)
+
+  pub read-unreadable : r ≡ Unreadable → (within (length old) (lineAt text at) ≡ unreadable) × (last ≡ old)
+  read-unreadable e = by (within (length old) (lineAt text at)) refl (sym (k .answers) ∙ e) (k .leaves)
+    where
+      by : (x : Reading) → within (length old) (lineAt text at) ≡ x → answer x ≡ Unreadable → last ≡ stored old x → (x ≡ unreadable) × (last ≡ old)
+      by (numbers ns end) t f s = let z : _≡_ {A = ℕ} 0 1 = cc in absurd (omega arith)
+      by unreadable t f s = (refl, s)

@@ -1,0 +1,33 @@
+-- `texts::page::put_numbers` goes number by number.
+-- Assumes nothing.
+use borrow.Author.Needs.{needs}
+use Prim.Native.Nat.{_-_}
+use lib.ListN.{length}
+use native.Mathlib.Omega.{arith}
+use Rattle.texts.proofs.page.Putting.{Listing, list-none, list-more, list-all}
+use Rattle.texts.proofs.page.put_numbers.Statement.{statement}
+use Rattle.texts.proofs.page.put_numbers.Tie as tie
+
+abbrev Inv-loop : tie.InvT-loop
+Inv-loop page₀ used numbers waiting₀ i₀ t7 page waiting i = Listing numbers page₀ used page waiting i
+
+abbrev μ-loop : tie.MeasureT-loop
+μ-loop page₀ used numbers waiting₀ i₀ t7 page waiting i = length numbers - i
+
+pub put-numbers-spec : {M : Type 1} → statement M
+put-numbers-spec =
+    tie.close
+    (tie.spec
+    Inv-loop
+    μ-loop
+    (λ c. list-none)
+    (λ c. search needs)
+    (λ c κs. search needs)
+    (λ c. search needs)
+    (λ c. search needs)
+    (λ c κs. search needs)
+    (λ c. search needs)
+    (λ c. omega arith)
+    (λ c. list-more (c .before .before .before .before .before .before .before .loop .inv)
+    (c .before .before .before .before .before .before .loop-test .taken) (c .before .before .before .put-text .ensures) (c .put-number .ensures))
+    (λ c. list-all (c .before .loop .inv) (c .loop-test .left)))
