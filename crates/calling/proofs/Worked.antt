@@ -6,14 +6,15 @@ use mathlib.Core.List.{List, [], _∷_, map}
 use Prim.Native.Nat.{ℕ}
 use Prim.Native.String.{String}
 use Rattle.walk.proofs.Opened.{walking}
+use Rattle.checked.specs.Opening.{opening}
 use Rattle.checked.specs.Fits.{fitted}
-use Rattle.checked.specs.Item.{frontOf}
-use Rattle.cases.specs.Write.{walks, writes}
-use Rattle.cases.specs.Read.{found, finds, reads}
-use Rattle.rows.specs.WriteRow.{writesRowPlanned, writesRow}
+use Rattle.checked.specs.Item.{frontOf, wholeOf}
+use Rattle.cases.specs.Write.{writes}
+use Rattle.cases.specs.Read.{reads}
+use Rattle.rows.specs.WriteRow.{writesRow}
 use Rattle.rows.specs.WriteRow as Written
-use Rattle.rows.specs.ReadRow.{gather, readsRowPlanned, readsRow}
-use Rattle.rows.specs.Reader.{next, nextPlanned, nextOf}
+use Rattle.rows.specs.ReadRow.{gather, readsRow}
+use Rattle.rows.specs.Reader.{next, nextOf}
 use Rattle.texts.specs.Ascii.{bytes}
 use Rattle.texts.specs.Numeral.{run, valueFrom, wellFormed, numeral}
 use Rattle.texts.specs.Decimal.{decimalBy, decimal}
@@ -59,5 +60,8 @@ prints =
     ∷ []
 
 worked : map asked prints ≡ map expected prints
-unfolding walking fitted frontOf walks writes found finds reads writesRowPlanned writesRow Written.inTurn Written.rowOf gather readsRowPlanned readsRow next nextPlanned nextOf run valueFrom wellFormed numeral decimalBy decimal ended words numberOfWord numbersOf lineAt unreadableText numberText numberLine itemText refusedText refusedLine refusedItem itemsText spaced cellsText readable wordSize same checkText readText writeText caseText rowText writeRowText readRowText asksBy asksText checkCall askText alone wayText chosen lineText lineSize after lineOf tableAt saidAt nextAt nextKnown printedBy printed
+unfolding walking fitted opening frontOf wholeOf writes reads writesRow Written.inTurn Written.rowOf gather readsRow next nextOf run valueFrom
+    wellFormed numeral decimalBy decimal ended words numberOfWord numbersOf lineAt unreadableText numberText numberLine itemText refusedText
+    refusedLine refusedItem itemsText spaced cellsText readable wordSize same checkText readText writeText caseText rowText writeRowText readRowText
+    asksBy asksText checkCall askText alone wayText chosen lineText lineSize after lineOf tableAt saidAt nextAt nextKnown printedBy printed
 worked = refl

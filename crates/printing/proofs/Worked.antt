@@ -6,8 +6,9 @@ use mathlib.Core.List.{List, [], _∷_, map}
 use Prim.Native.Nat.{ℕ}
 use Prim.Native.String.{String}
 use Rattle.walk.proofs.Opened.{walking}
+use Rattle.checked.specs.Opening.{opening}
 use Rattle.checked.specs.Fits.{fitted}
-use Rattle.cases.specs.Write.{walks, writes}
+use Rattle.cases.specs.Write.{writes}
 use Rattle.texts.specs.Ascii.{bytes}
 use Rattle.texts.specs.Numeral.{run, valueFrom, wellFormed, numeral}
 use Rattle.texts.specs.Decimal.{decimalBy, decimal}
@@ -48,5 +49,7 @@ prints =
     ∷ []
 
 worked : map asked prints ≡ map expected prints
-unfolding walking fitted walks writes run valueFrom wellFormed numeral decimalBy decimal ended words numberOfWord numbersOf lineAt lineText unreadableText refusedText refusedLine caseText caseRefusedText tableLine poolLine oneAt numbersBy numbersFrom inputOf started caseLine casesOf told printed
+unfolding walking fitted opening writes run valueFrom wellFormed numeral decimalBy decimal ended words numberOfWord numbersOf lineAt lineText
+    unreadableText refusedText refusedLine caseText caseRefusedText tableLine poolLine oneAt numbersBy numbersFrom inputOf started caseLine casesOf
+    told printed
 worked = refl
