@@ -7,9 +7,10 @@ ghost use lib.ListN.{length, getD, take, drop};
 ghost use Rattle.numbers.specs.Pick.{pick};
 ghost use Rattle.grammar.specs.Table.{nodes};
 ghost use Rattle.lists.specs.Lists.{every};
-ghost use Rattle.grammar.specs.Steps.{stepsOf, Unguarded};
+ghost use Rattle.grammar.specs.Steps.{Unguarded};
 ghost use Rattle.grammar.specs.Plan.{sizeIn, Ready};
 ghost use Rattle.cycles.specs.Safe.{isMarked, SafeMarks, SafePass};
+ghost use Rattle.grammar.specs.Shown.{stepsIn};
 use planning::steps::steps_of;
 
 // More than a table has nodes: no path that opens each of them once is as long.
@@ -46,7 +47,7 @@ fn run_safe(pool: &[u64], at: usize, count: usize, safe: &[u8; 256]) -> bool
 fn steps_safe(table: &[u64], pool: &[u64], plan: &[u64], n: usize, safe: &[u8; 256]) -> bool
     requires { ⌜ Ready (now table) (now pool) (now plan) ⌝ }
     requires { ⌜ n < nodes (now table) ⌝ }
-    ensures { λ r. ⌜ r ≡ every (isMarked (now (safe .entry))) (stepsOf false (now (table .entry)) (now (pool .entry)) (sizeIn (now (plan .entry))) n) ⌝ }
+    ensures { λ r. ⌜ r ≡ every (isMarked (now (safe .entry))) (stepsIn false (now (table .entry)) (now (pool .entry)) (now (plan .entry)) n) ⌝ }
 {
     let s = steps_of(table, pool, plan, n, false);
     if one_safe(s.first, s.a, safe) {

@@ -15,3 +15,4 @@ pub mod Plan
 pub mod Seconds
 pub mod Placed
 pub mod Named
+pub mod Shown

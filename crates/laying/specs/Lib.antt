@@ -1,2 +1,3 @@
 -- What the contracts of the writing walk cite beside those of `walk`.
 pub mod Sure
+pub mod Parts

@@ -1,5 +1,5 @@
 // The writing walk. The buffer is the room: what is left of it is handed back.
-ghost use mathlib.Core.List.{[], _∷_, _++_};
+ghost use mathlib.Core.List.{[], _∷_};
 ghost use Prim.Native.Nat.{_+_, _*_, _^_, _≤_};
 ghost use lib.ListN.{length};
 ghost use Rattle.grammar.specs.Plan.{ruleIn};
@@ -7,6 +7,7 @@ ghost use Rattle.walk.specs.Walk.{cell, walk};
 ghost use Rattle.walk.specs.Room.{most};
 ghost use Rattle.walk.specs.Laid.{Laid, leftOf};
 ghost use Rattle.walk.specs.Plan.{Visits, Raised};
+ghost use Rattle.laying.specs.Parts.{VisitsTwo, tagWalk, twoWalks};
 use super::tally::NO_ROOM;
 use super::tally::TOO_DEEP;
 use grammar::kinds;
@@ -35,7 +36,7 @@ fn tagged(words: &&[u64], lent: &&[u64], s: Tagged, left: usize, out: &mut [u64]
     requires { ⌜ Visits (now (now lent)) (now (now words)) (s .part) (s .number) ⌝ }
     requires { ⌜ (s .number + left ≤ 2 ^ 62 + 200) × (left ≤ 200) × (length (now out) ≤ most) ⌝ }
     ensures { λ r. ⌜ Laid (length (now (out .entry)))
-        (cell (s .tag) ∷ walk (ruleIn (now (now (lent .entry))) (now (now (words .entry)))) left 0 (s .part) (s .number))
+        (tagWalk (now (now (lent .entry))) (now (now (words .entry))) left (s .tag) s)
         (now (out .entry)) (now (out .exit)) (leftOf r) ⌝ }
 {
     if out.len() == 0 {
@@ -48,11 +49,10 @@ fn tagged(words: &&[u64], lent: &&[u64], s: Tagged, left: usize, out: &mut [u64]
 // Two parts at two numbers. "The second part's cells start right after the first part's": the middle of
 // the buffer that remains is lent on for them.
 fn both(words: &&[u64], lent: &&[u64], s: Two, left: usize, out: &mut [u64]) -> usize
-    requires { ⌜ Visits (now (now lent)) (now (now words)) (s .first) (s .x) × Visits (now (now lent)) (now (now words)) (s .second) (s .y) ⌝ }
+    requires { ⌜ VisitsTwo (now (now lent)) (now (now words)) s ⌝ }
     requires { ⌜ (s .x + left ≤ 2 ^ 62 + 200) × (s .y + left ≤ 2 ^ 62 + 200) × (left ≤ 200) × (length (now out) ≤ most) ⌝ }
     ensures { λ r. ⌜ Laid (length (now (out .entry)))
-        (walk (ruleIn (now (now (lent .entry))) (now (now (words .entry)))) left 0 (s .first) (s .x)
-        ++ walk (ruleIn (now (now (lent .entry))) (now (now (words .entry)))) left 0 (s .second) (s .y))
+        (twoWalks (now (now (lent .entry))) (now (now (words .entry))) left s)
         (now (out .entry)) (now (out .exit)) (leftOf r) ⌝ }
 {
     let rest = lay(words, lent, s.first, s.x, 0, left, out);

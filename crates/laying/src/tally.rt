@@ -1,12 +1,13 @@
 // The pass that decides by the room and writes nothing. What a cell is does not matter to it.
 ghost use mathlib.Core.Path.{_≡_};
-ghost use mathlib.Core.List.{[], _∷_, _++_};
+ghost use mathlib.Core.List.{[], _∷_};
 ghost use Prim.Native.Nat.{_+_, _^_, _≤_};
 ghost use Rattle.grammar.specs.Plan.{ruleIn};
 ghost use Rattle.walk.specs.Walk.{cell, walk};
 ghost use Rattle.walk.specs.Room.{tallied, most};
 ghost use Rattle.walk.specs.Laid.{leftOf};
 ghost use Rattle.walk.specs.Plan.{Visits};
+ghost use Rattle.laying.specs.Parts.{VisitsTwo, tagWalk, twoWalks};
 use grammar::kinds;
 use grammar::kinds::Tagged;
 use grammar::kinds::Two;
@@ -36,7 +37,7 @@ fn one(room: usize) -> usize
 fn tagged(words: &&[u64], lent: &&[u64], s: Tagged, left: usize, room: usize) -> usize
     requires { ⌜ Visits (now (now lent)) (now (now words)) (s .part) (s .number) ⌝ }
     requires { ⌜ (s .number + left ≤ 2 ^ 62 + 200) × (left ≤ 200) × (room ≤ most) ⌝ }
-    ensures { λ r. ⌜ leftOf r ≡ tallied room (cell 0 ∷ walk (ruleIn (now (now (lent .entry))) (now (now (words .entry)))) left 0 (s .part) (s .number)) ⌝ }
+    ensures { λ r. ⌜ leftOf r ≡ tallied room (tagWalk (now (now (lent .entry))) (now (now (words .entry))) left 0 s) ⌝ }
 {
     if room == 0 {
         return NO_ROOM;
@@ -46,11 +47,10 @@ fn tagged(words: &&[u64], lent: &&[u64], s: Tagged, left: usize, room: usize) ->
 
 // Two parts at two numbers.
 fn both(words: &&[u64], lent: &&[u64], s: Two, left: usize, room: usize) -> usize
-    requires { ⌜ Visits (now (now lent)) (now (now words)) (s .first) (s .x) × Visits (now (now lent)) (now (now words)) (s .second) (s .y) ⌝ }
+    requires { ⌜ VisitsTwo (now (now lent)) (now (now words)) s ⌝ }
     requires { ⌜ (s .x + left ≤ 2 ^ 62 + 200) × (s .y + left ≤ 2 ^ 62 + 200) × (left ≤ 200) × (room ≤ most) ⌝ }
     ensures { λ r. ⌜ leftOf r ≡ tallied room
-        (walk (ruleIn (now (now (lent .entry))) (now (now (words .entry)))) left 0 (s .first) (s .x)
-        ++ walk (ruleIn (now (now (lent .entry))) (now (now (words .entry)))) left 0 (s .second) (s .y)) ⌝ }
+        (twoWalks (now (now (lent .entry))) (now (now (words .entry))) left s) ⌝ }
 {
     let rest = tally(words, lent, s.first, s.x, left, room);
     if TOO_DEEP <= rest {

@@ -35,7 +35,7 @@ use denote.Triple.Statement.{Contract}
 use denote.Triple.Entry.{Vals}
 use denote.Triple.Spec.{tripleOf}
 use denote.Triple.Clauses.{Lasts, lasts}
-use Rattle.rows.specs.Reader.{Strode}
+use Rattle.rows.specs.Reader.{Moved}
 use Rattle.rows.specs.declared.reader.Reader.{Reader}
 use Rattle.rows.specs.declared.reader.Next.{Next}
 use Rattle.rows.proofs.Lent.{Back, lends, back}
@@ -87,7 +87,7 @@ module _ (c : Asker) where
   passed l α = (vptr l 0 ∷ [], (tv ∷ [], (pv ∷ [], (vint w64 (c .st) ∷ [], tt))))
 
   abbrev pub Said : Reader → Next → Reader → Type 0
-  Said y n z = Strode (now (c .t)) (now (c .p)) (c .st) (now (y .row)) (y .at) n (z .at) × (z .row ≡ y .row)
+  Said y n z = Moved (now (c .t)) (now (c .p)) (c .st) y n z
 
 module _ {M : Type 1} (𝓤 : URA M) (H : Heap 𝓤) (A : Atoms 𝓤) (W : Given 𝓤 H A) (at-mem : Memory → SProp 𝓤) (run : Routine → Fun 𝓤) (c : Asker) (l : ℕ) where
   abbrev pub to-step : ℕ → GName → Reader → Step 𝓤 H A at-mem run .Ghost

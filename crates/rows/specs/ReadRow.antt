@@ -5,6 +5,7 @@
 --   GotItems    the same, and nothing changes in a buffer where it is refused
 --   readsRow    the answer for a table, its pool, a start node, a room and the cells; readRowSays its values
 --   GotRow      the answer and the buffer's last words, for every input
+--   Gathers, numbersIn   a row that is read whole; its numbers, in the words of a plan
 -- Assumes nothing.
 use mathlib.Core.Path.{_≡_}
 use mathlib.Core.List.{List, [], _∷_}
@@ -14,6 +15,7 @@ use Rattle.grammar.specs.declared.refusal.Refusal.{Refusal}
 use Rattle.grammar.specs.declared.refusal.Refusal.the-variants.{NoRoom}
 use Rattle.grammar.specs.Rule.{Rule}
 use Rattle.grammar.specs.Sizes.{rulesOf}
+use Rattle.grammar.specs.Plan.{ruleIn}
 use Rattle.lists.specs.Filled.{over}
 use Rattle.checked.specs.Opening.{judged, opening}
 use Rattle.checked.specs.Item.{Front, number, refused, front}
@@ -79,3 +81,7 @@ pub record GotItems (g : ℕ → Rule) (i : ℕ) (cs old last : List ℕ) (r : R
 pub record Gathers (x : Gathered) : Type 0 where
   pub ns : List ℕ
   pub is : x ≡ all ns
+
+-- the numbers of a row, by the rules of a plan
+abbrev pub numbersIn : List ℕ → List ℕ → ℕ → ℕ → List ℕ → List ℕ
+numbersIn plan p i room cs = gotten (gather (ruleIn plan p) i room cs)

@@ -6,6 +6,7 @@
 --   strideOf   both
 --   nextAnswer 01's number, node, item and counts of an answer; nextSays those of a call's
 --   Strode     the answer and the place after it, for every input
+--   Moved      the same of a reader
 -- Assumes nothing.
 use mathlib.Core.Path.{_≡_}
 use mathlib.Core.List.{List, [], _∷_}
@@ -16,6 +17,8 @@ use Rattle.grammar.specs.Rule.{Rule}
 use Rattle.grammar.specs.Sizes.{rulesOf}
 use Rattle.checked.specs.Opening.{judged, opening}
 use Rattle.checked.specs.Item.{Front, number, refused, front}
+use denote.Ref.{now}
+use Rattle.rows.specs.declared.reader.Reader.{Reader}
 use Rattle.rows.specs.declared.reader.Next.{Next}
 use Rattle.rows.specs.declared.reader.Next.the-variants.{Item, End, Refused}
 use Rattle.rows.specs.declared.reader.Stride.{Stride}
@@ -62,3 +65,7 @@ nextSays t p i row at = nextAnswer (nextOf t p i row at)
 pub record Strode (t p : List ℕ) (i : ℕ) (row : List ℕ) (at : ℕ) (n : Next) (to : ℕ) : Type 0 where
   pub says : nextAnswer n ≡ nextSays t p i row at
   pub goes : to ≡ afterOf at (nextOf t p i row at)
+
+-- the answer n of a reader, and the reader that is left: over the same row, at the place after the answer
+abbrev pub Moved : List ℕ → List ℕ → ℕ → Reader → Next → Reader → Type 0
+Moved t p i old n last = Strode t p i (now (old .row)) (old .at) n (last .at) × (last .row ≡ old .row)

@@ -2,7 +2,7 @@
 // thin over the covered slice-and-place function.
 ghost use mathlib.Core.Path.{_≡_};
 ghost use Rattle.checked.specs.Prepared.{Blank};
-ghost use Rattle.rows.specs.Reader.{strideOf, Strode};
+ghost use Rattle.rows.specs.Reader.{strideOf, Strode, Moved};
 use checked::item::Item;
 use checked::item::item_at;
 use checked::opened::begin;
@@ -89,8 +89,7 @@ impl<'a> Reader<'a> {
 
     // The answer at the reader's place, and the reader moves past it.
     pub fn next(&mut self, table: &[u64], pool: &[u64], start: usize) -> Next
-        ensures { λ n. ⌜ Strode (now (table .entry)) (now (pool .entry)) start (now (now (self .entry) .row)) (now (self .entry) .at) n (now (self .exit) .at)
-            × (now (self .exit) .row ≡ now (self .entry) .row) ⌝ }
+        ensures { λ n. ⌜ Moved (now (table .entry)) (now (pool .entry)) start (now (self .entry)) n (now (self .exit)) ⌝ }
     {
         let at = self.at;
         let s = stride_at(table, pool, start, self.row, at);

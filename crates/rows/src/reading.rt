@@ -6,7 +6,8 @@ ghost use Rattle.lists.specs.Filled.{over};
 ghost use Rattle.checked.specs.Prepared.{Blank};
 ghost use Rattle.walk.specs.Plan.{Reading};
 ghost use Rattle.checked.specs.Kept.{Kept};
-ghost use Rattle.rows.specs.ReadRow.{gather, Gathers, gotten, NumbersOver, GotItems, GotRow};
+ghost use Rattle.rows.specs.ReadRow.{gather, Gathers, NumbersOver, GotItems, GotRow};
+ghost use Rattle.rows.specs.ReadRow.{numbersIn};
 use super::answer::Row;
 use checked::copy::copy;
 use checked::item::Item;
@@ -78,9 +79,8 @@ fn settle_numbers(
 )
     requires { ⌜ Reading (now plan) (now pool) start ⌝ }
     requires { ⌜ Gathers (gather (ruleIn (now plan) (now pool)) start (length (now numbers)) (now cells)) ⌝ }
-    requires { ⌜ Kept (gotten (gather (ruleIn (now plan) (now pool)) start (length (now numbers)) (now cells))) (now kept) count (length (now numbers)) ⌝ }
-    ensures { λ _. ⌜ now (numbers .exit) ≡ over (gotten (gather (ruleIn (now (plan .entry)) (now (pool .entry))) start (length (now (numbers .entry)))
-        (now (cells .entry)))) (now (numbers .entry)) ⌝ }
+    requires { ⌜ Kept (numbersIn (now plan) (now pool) start (length (now numbers)) (now cells)) (now kept) count (length (now numbers)) ⌝ }
+    ensures { λ _. ⌜ now (numbers .exit) ≡ over (numbersIn (now (plan .entry)) (now (pool .entry)) start (length (now (numbers .entry))) (now (cells .entry))) (now (numbers .entry)) ⌝ }
 {
     if count <= kept.len() {
         copy(kept, count, numbers);

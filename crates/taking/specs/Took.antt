@@ -5,17 +5,20 @@
 --   TakenBy   what a visit of a kind reads, with words a and b, where its parts have a depth left
 --   Celled    the next cell of a row
 --   Passed    what is made of the number that a cell stands for
+--   TakenOwn  what a visit reads of a cell of its own
+--   Roomy     what every reading visit is given
 -- Assumes nothing.
 use mathlib.Core.Path.{_≡_}
 use mathlib.Core.Bool.{Bool}
 use mathlib.Core.List.{List}
-use Prim.Native.Nat.{ℕ, _+_, _-_, _^_, _≤_, _<_}
+use Prim.Native.Nat.{ℕ, _+_, _*_, _-_, _^_, _≤_, _<_}
 use lib.Dec.{eqb, ltb, leb}
 use lib.ListN.{length, getD, take, drop}
 use Rattle.numbers.specs.Pick.{pick}
 use Rattle.numbers.specs.Joined.{limit}
 use Rattle.grammar.specs.declared.refusal.Refusal.{Refusal}
 use Rattle.grammar.specs.declared.refusal.Refusal.the-variants.{TooDeep, NoRoom, NotACase}
+use Rattle.grammar.specs.Rule.{Tree}
 use Rattle.grammar.specs.Kind.{Kind}
 use Rattle.grammar.specs.declared.kinds.Place.{Place}
 use Rattle.grammar.specs.declared.kinds.Place.the-variants.{At, Nowhere}
@@ -52,3 +55,11 @@ PassedAt Nowhere at next r = r ≡ 2 ^ 63 + 2
 
 pub record Passed (s : Place) (at next r : ℕ) : Type 0 where
   pub is : PassedAt s at next r
+
+-- what a visit that takes a cell of its own reads by a tree, whatever its parts are
+abbrev pub TakenOwn : Tree → ℕ → List ℕ → ℕ → ℕ → ℕ → Type 0
+TakenOwn tree off row at next r = (go : ℕ → ℕ → ℕ → List ℕ → Read) → Taken (2 ^ 62 + 256) (follow go off tree) row at next r
+
+-- a depth left, what the shifts take off, and a place in a row that one case may have
+abbrev pub Roomy : ℕ → ℕ → ℕ → List ℕ → Type 0
+Roomy left off at row = (left ≤ 200) × (off + left * 2 ^ 32 ≤ 200 * 2 ^ 32) × (at ≤ length row) × (length row ≤ 65536)

@@ -1,14 +1,12 @@
 // The cells that a visit takes itself, and the word in which a visit hands back what it read: below 2^63 a
 // number; BIG, which is 16 at the end, however many excepts take one off; or, above it, why nothing is read. A cell that does not fit is not gone past.
-ghost use mathlib.Core.Path.{_≡_};
-ghost use mathlib.Core.List.{List};
-ghost use Prim.Native.Nat.{ℕ, _+_, _^_, _≤_, _<_};
+ghost use Prim.Native.Nat.{_+_, _^_, _≤_, _<_};
 ghost use lib.ListN.{length, take as front, drop};
 ghost use Rattle.grammar.specs.kinds.Below.{belowRule};
 ghost use Rattle.grammar.specs.kinds.Nats.{natsRule};
 ghost use Rattle.grammar.specs.kinds.Pool.{poolRule};
-ghost use Rattle.walk.specs.Run.{Read, follow};
-ghost use Rattle.taking.specs.Took.{Celled, Passed, Taken};
+ghost use Rattle.taking.specs.Took.{Celled, Passed};
+ghost use Rattle.taking.specs.Took.{TakenOwn};
 use grammar::kinds::Place;
 use grammar::kinds::below;
 use grammar::kinds::pool;
@@ -45,8 +43,7 @@ fn cell_at(row: &[u64], at: usize, off: u64) -> Cell
 // nats: any number
 pub fn any(row: &&[u64], off: u64, at: &mut usize) -> u64
     requires { ⌜ (now at ≤ length (now (now row))) × (length (now (now row)) ≤ 65536) ⌝ }
-    ensures { λ r. ⌜ ((go : ℕ → ℕ → ℕ → List ℕ → Read) → Taken (2 ^ 62 + 256) (follow go off (natsRule .tree))
-        (now (now (row .entry))) (now (at .entry)) (now (at .exit)) r) ⌝ }
+    ensures { λ r. ⌜ TakenOwn (natsRule .tree) off (now (now (row .entry))) (now (at .entry)) (now (at .exit)) r ⌝ }
 {
     let k = *at;
     match cell_at(*row, k, off) {
@@ -75,8 +72,7 @@ fn passed(s: Place, at: &mut usize) -> u64
 // below: a number below a count
 pub fn counted(a: u64, row: &&[u64], off: u64, at: &mut usize) -> u64
     requires { ⌜ (a ≤ 2 ^ 62) × (now at ≤ length (now (now row))) × (length (now (now row)) ≤ 65536) ⌝ }
-    ensures { λ r. ⌜ (r ≤ 2 ^ 63 → r < a) × ((go : ℕ → ℕ → ℕ → List ℕ → Read) → Taken (2 ^ 62 + 256) (follow go off (belowRule a .tree))
-        (now (now (row .entry))) (now (at .entry)) (now (at .exit)) r) ⌝ }
+    ensures { λ r. ⌜ (r ≤ 2 ^ 63 → r < a) × TakenOwn (belowRule a .tree) off (now (now (row .entry))) (now (at .entry)) (now (at .exit)) r ⌝ }
 {
     match cell_at(*row, *at, off) {
         Cell::Of(c) => passed(below::place_of(a, c), at),
@@ -88,9 +84,7 @@ pub fn counted(a: u64, row: &&[u64], off: u64, at: &mut usize) -> u64
 pub fn listed(words: &&[u64], a: usize, b: usize, row: &&[u64], off: u64, at: &mut usize) -> u64
     requires { ⌜ (b ≤ 4096) × (a + b ≤ length (now (now words))) × (length (now (now words)) ≤ 4096) ⌝ }
     requires { ⌜ (now at ≤ length (now (now row))) × (length (now (now row)) ≤ 65536) ⌝ }
-    ensures { λ r. ⌜ ((go : ℕ → ℕ → ℕ → List ℕ → Read) → Taken (2 ^ 62 + 256)
-        (follow go off (poolRule (front b (drop a (now (now (words .entry))))) b .tree))
-        (now (now (row .entry))) (now (at .entry)) (now (at .exit)) r) ⌝ }
+    ensures { λ r. ⌜ TakenOwn (poolRule (front b (drop a (now (now (words .entry))))) b .tree) off (now (now (row .entry))) (now (at .entry)) (now (at .exit)) r ⌝ }
 {
     match cell_at(*row, *at, off) {
         Cell::Of(c) => passed(pool::place_of(*words, a, b, c), at),

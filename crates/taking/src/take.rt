@@ -9,6 +9,7 @@ ghost use Rattle.grammar.specs.kinds.Except.{except as exceptKind};
 ghost use Rattle.walk.specs.Run.{run};
 ghost use Rattle.walk.specs.Plan.{Reading, Choosing};
 ghost use Rattle.taking.specs.Took.{Taken, TakenBy};
+ghost use Rattle.taking.specs.Took.{Roomy};
 use super::own::DEEP;
 use super::own::UNFIT;
 use super::own::any;
@@ -64,7 +65,7 @@ fn both(
     at: &mut usize,
 ) -> u64
     requires { ⌜ Reading (now (now lent)) (now (now words)) a × Reading (now (now lent)) (now (now words)) b ⌝ }
-    requires { ⌜ (left ≤ 200) × (off + left * 2 ^ 32 ≤ 200 * 2 ^ 32) × (now at ≤ length (now (now row))) × (length (now (now row)) ≤ 65536) ⌝ }
+    requires { ⌜ Roomy left off (now at) (now (now row)) ⌝ }
     ensures { λ r. ⌜ TakenBy consKind (now (now (lent .entry))) (now (now (words .entry))) a b left off
         (now (now (row .entry))) (now (at .entry)) (now (at .exit)) r ⌝ }
 {
@@ -94,7 +95,7 @@ fn chosen(
     at: &mut usize,
 ) -> u64
     requires { ⌜ Choosing (now (now lent)) (now (now words)) a b ⌝ }
-    requires { ⌜ (left ≤ 200) × (off + left * 2 ^ 32 ≤ 200 * 2 ^ 32) × (now at ≤ length (now (now row))) × (length (now (now row)) ≤ 65536) ⌝ }
+    requires { ⌜ Roomy left off (now at) (now (now row)) ⌝ }
     ensures { λ r. ⌜ TakenBy depKind (now (now (lent .entry))) (now (now (words .entry))) a b left off
         (now (now (row .entry))) (now (at .entry)) (now (at .exit)) r ⌝ }
 {
@@ -123,7 +124,7 @@ fn without(
     at: &mut usize,
 ) -> u64
     requires { ⌜ Reading (now (now lent)) (now (now words)) a × (b < 2 ^ 62) ⌝ }
-    requires { ⌜ (left ≤ 200) × (off + left * 2 ^ 32 ≤ 200 * 2 ^ 32) × (now at ≤ length (now (now row))) × (length (now (now row)) ≤ 65536) ⌝ }
+    requires { ⌜ Roomy left off (now at) (now (now row)) ⌝ }
     ensures { λ r. ⌜ TakenBy exceptKind (now (now (lent .entry))) (now (now (words .entry))) a b left off
         (now (now (row .entry))) (now (at .entry)) (now (at .exit)) r ⌝ }
 {
@@ -149,7 +150,7 @@ pub fn take(
     at: &mut usize,
 ) -> u64
     requires { ⌜ Reading (now (now lent)) (now (now words)) i ⌝ }
-    requires { ⌜ (left ≤ 200) × (off + left * 2 ^ 32 ≤ 200 * 2 ^ 32) × (now at ≤ length (now (now row))) × (length (now (now row)) ≤ 65536) ⌝ }
+    requires { ⌜ Roomy left off (now at) (now (now row)) ⌝ }
     ensures { λ r. ⌜ Taken (2 ^ 62 + (201 - left)) (run (ruleIn (now (now (lent .entry))) (now (now (words .entry)))) left off i)
         (now (now (row .entry))) (now (at .entry)) (now (at .exit)) r ⌝ }
 {

@@ -1,14 +1,14 @@
 // 5 cons | nodes | both lower (4); size (8) | product
 ghost use mathlib.Core.Path.{_≡_};
-ghost use mathlib.Core.List.{List, [], _∷_};
+ghost use mathlib.Core.List.{List};
 ghost use Prim.Native.Nat.{ℕ, _+_, _*_, _<_, _≤_};
 ghost use lib.ListN.{length, getD};
 ghost use Rattle.numbers.specs.Joined.{capped, wordOf};
 ghost use Rattle.numbers.specs.Cons;
 ghost use Rattle.grammar.specs.Nodes.{nodeWith};
-ghost use Rattle.grammar.specs.Rule.{part};
 ghost use Rattle.grammar.specs.kinds.Cons.{cons, consRule};
 ghost use Rattle.grammar.specs.Plan.{sizeIn, weighed};
+ghost use Rattle.grammar.specs.Shown.{ShowsTwo};
 use super::super::refusal::Refusal;
 use super::Two;
 use super::Weighed;
@@ -34,8 +34,7 @@ pub fn check(plan: &[u64], n: usize, a: usize, b: usize) -> Weighed
 pub fn step(plan: &[u64], a: usize, b: usize, n: u64) -> Two
     requires { ⌜ (4 * a + 3 < length (now plan)) × (4 * b + 3 < length (now plan)) ⌝ }
     requires { ⌜ (0 < getD (now plan) (4 * a + 3) 0) × (0 < getD (now plan) (4 * b + 3) 0) ⌝ }
-    ensures { λ r. ⌜ consRule (sizeIn (now (plan .entry)) a) (sizeIn (now (plan .entry)) b) a b .items n
-        ≡ part (r .first) (r .x) 0 ∷ part (r .second) (r .y) 0 ∷ [] ⌝ }
+    ensures { λ r. ⌜ ShowsTwo (consRule (sizeIn (now (plan .entry)) a) (sizeIn (now (plan .entry)) b) a b .items n) r ⌝ }
 {
     let q = numbers::cons::split(plan[4 * a + 3], plan[4 * b + 3], n);
     Two {

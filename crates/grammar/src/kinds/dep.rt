@@ -1,22 +1,19 @@
 // 6 dep | node, place | a lower (4); its size m finite, at most 256 (7); b+m within the pool (5); each of those m words
 // a lower node (4); all finite or all endless (7); size (8) | sum of the seconds
 ghost use mathlib.Core.Path.{_≡_};
-ghost use mathlib.Core.List.{List, [], _∷_};
+ghost use mathlib.Core.List.{List};
 ghost use Prim.Native.Nat.{ℕ, _+_, _*_, _^_, _<_, _≤_};
 ghost use lib.ListN.{length, getD, take, drop};
-ghost use Rattle.numbers.specs.Size.{Size};
 ghost use Rattle.numbers.specs.Joined.{capped, wordOf};
 ghost use Rattle.numbers.specs.Dep.{inTurn};
 ghost use Rattle.numbers.specs.Dep;
-ghost use Rattle.grammar.specs.Checks.{count as countOf};
-ghost use Rattle.grammar.specs.Checks.{seconds as secondsFrom};
 ghost use Rattle.grammar.specs.Kind.{before};
 ghost use Rattle.grammar.specs.Nodes.{nodeWith};
 ghost use Rattle.grammar.specs.Plan.{sizeIn, coded, weighed};
-ghost use Rattle.grammar.specs.Named.{Names};
 ghost use Rattle.grammar.specs.Rule.{part};
-ghost use Rattle.grammar.specs.kinds.Dep.{counts, secondsOf, secondsRow, dep, depRule};
+ghost use Rattle.grammar.specs.kinds.Dep.{counts, secondsOf, secondsRow, dep};
 ghost use Rattle.grammar.specs.Seconds.{firsts, DepIn};
+ghost use Rattle.grammar.specs.Shown.{secondsSized, ShowsDep, NamesDep};
 use super::super::named::Named;
 use super::super::refusal::Refusal;
 use super::Two;
@@ -114,7 +111,7 @@ fn in_turn(pool: &[u64], plan: &[u64], at: usize, count: usize, n: u64) -> Pair
 // The two parts' numbers, by the seconds' sizes: "Seconds endless: first n mod m, second n div m."
 fn parts(pool: &[u64], plan: &[u64], a: usize, b: usize, n: u64) -> Pair
     requires { ⌜ DepIn (now plan) (now pool) a b ⌝ }
-    ensures { λ r. ⌜ r ≡ Dep.split (secondsOf (sizeIn (now (plan .entry))) (take (firsts (now (plan .entry)) a) (drop b (now (pool .entry))))) n ⌝ }
+    ensures { λ r. ⌜ r ≡ Dep.split (secondsSized (now (plan .entry)) (now (pool .entry)) a b) n ⌝ }
 {
     let m = plan[4 * a + 3];
     let c = pool[b] as usize;
@@ -128,9 +125,7 @@ fn parts(pool: &[u64], plan: &[u64], a: usize, b: usize, n: u64) -> Pair
 pub fn step(pool: &[u64], plan: &[u64], a: usize, b: usize, n: u64) -> Two
     requires { ⌜ DepIn (now plan) (now pool) a b × (length (now pool) ≤ 4096) ⌝ }
     requires { ⌜ Dep.split (secondsOf (sizeIn (now plan)) (take (firsts (now plan) a) (drop b (now pool)))) n .first < firsts (now plan) a ⌝ }
-    ensures { λ r. ⌜ ((s : Size) → depRule s (secondsOf (sizeIn (now (plan .entry))) (take (firsts (now (plan .entry)) a) (drop b (now (pool .entry)))))
-        a (take (firsts (now (plan .entry)) a) (drop b (now (pool .entry)))) .items n
-        ≡ part (r .first) (r .x) 0 ∷ part (r .second) (r .y) 0 ∷ []) ⌝ }
+    ensures { λ r. ⌜ ShowsDep (now (plan .entry)) (now (pool .entry)) a b n r ⌝ }
 {
     let q = parts(pool, plan, a, b, n);
     let x = q.first;
@@ -161,7 +156,7 @@ fn before(pool: &[u64], plan: &[u64], b: usize, x: usize) -> u64
 // The number of a dep's case: x is the first part's number, y that of the second that it chooses.
 fn joined(pool: &[u64], plan: &[u64], a: usize, b: usize, x: u64, y: u64) -> Joined
     requires { ⌜ DepIn (now plan) (now pool) a b × (x < firsts (now plan) a) ⌝ }
-    ensures { λ r. ⌜ r ≡ capped (Dep.join (secondsOf (sizeIn (now (plan .entry))) (take (firsts (now (plan .entry)) a) (drop b (now (pool .entry))))) x y) ⌝ }
+    ensures { λ r. ⌜ r ≡ capped (Dep.join (secondsSized (now (plan .entry)) (now (pool .entry)) a b) x y) ⌝ }
 {
     let head = pool[b] as usize;
     if plan[4 * head + 3] < ENDLESS {
@@ -173,8 +168,7 @@ fn joined(pool: &[u64], plan: &[u64], a: usize, b: usize, x: u64, y: u64) -> Joi
 
 pub fn join(pool: &[u64], plan: &[u64], a: usize, b: usize, x: u64, y: u64) -> u64
     requires { ⌜ DepIn (now plan) (now pool) a b × (x < firsts (now plan) a) ⌝ }
-    ensures { λ r. ⌜ r ≡ wordOf (capped (Dep.join (secondsOf (sizeIn (now (plan .entry))) (take (firsts (now (plan .entry)) a) (drop b (now
-        (pool .entry))))) x y)) ⌝ }
+    ensures { λ r. ⌜ r ≡ wordOf (capped (Dep.join (secondsSized (now (plan .entry)) (now (pool .entry)) a b) x y)) ⌝ }
 {
     word(joined(pool, plan, a, b, x, y))
 }
@@ -182,8 +176,7 @@ pub fn join(pool: &[u64], plan: &[u64], a: usize, b: usize, x: u64, y: u64) -> u
 // "to a dep's first and each second"
 pub fn steps(plan: &[u64], a: usize, b: usize) -> Named
     requires { ⌜ 4 * a + 3 < length (now plan) ⌝ }
-    ensures { λ r. ⌜ ((p : List ℕ) → b + firsts (now (plan .entry)) a ≤ length p → countOf (sizeIn (now (plan .entry)) a) ≡ firsts (now (plan .entry)) a →
-        Names p (a ∷ secondsFrom p b (sizeIn (now (plan .entry)) a)) r) ⌝ }
+    ensures { λ r. ⌜ NamesDep (now (plan .entry)) a b r ⌝ }
 {
     Named {
         first: true,

@@ -8,10 +8,11 @@ ghost use Rattle.numbers.specs.Pick.{pick};
 ghost use Rattle.numbers.specs.Joined.{capped, wordOf};
 ghost use Rattle.numbers.specs.Or;
 ghost use Rattle.grammar.specs.Nodes.{nodeWith};
-ghost use Rattle.grammar.specs.Rule.{own, part};
+ghost use Rattle.grammar.specs.Rule.{part};
 ghost use Rattle.grammar.specs.kinds.Or.{or, orRule};
 ghost use Rattle.grammar.specs.Plan.{sizeIn, weighed};
 ghost use Rattle.grammar.specs.Named.{Names};
+ghost use Rattle.grammar.specs.Shown.{ShowsTagged};
 use super::super::named::Named;
 use super::super::named::one;
 use super::super::named::two;
@@ -50,8 +51,7 @@ pub fn steps(a: usize, b: usize, guarded: bool) -> Named
 // A visit at n: the tag and the part that n is of, and its number there, by the parts' sizes.
 pub fn step(plan: &[u64], a: usize, b: usize, n: u64) -> Tagged
     requires { ⌜ (4 * a + 3 < length (now plan)) × (4 * b + 3 < length (now plan)) ⌝ }
-    ensures { λ r. ⌜ orRule (sizeIn (now (plan .entry)) a) (sizeIn (now (plan .entry)) b) a b .items n
-        ≡ own (r .tag) ∷ part (r .part) (r .number) 0 ∷ [] ⌝ }
+    ensures { λ r. ⌜ ShowsTagged (orRule (sizeIn (now (plan .entry)) a) (sizeIn (now (plan .entry)) b) a b .items n) r ⌝ }
 {
     match numbers::or::split(plan[4 * a + 3], plan[4 * b + 3], n) {
         Part::First(m) => Tagged {
