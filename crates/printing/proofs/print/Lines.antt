@@ -11,7 +11,7 @@ use native.Mathlib.Omega.{arith}
 use lib.Dec.{leb}
 use lib.ListN.{length}
 use Rattle.texts.specs.Line.{Reading, numbers, unreadable, lineAt, within}
-use Rattle.texts.proofs.line.Outcomes.{readable-not, within-back}
+use Rattle.texts.proofs.line.Answered.{readable-not, within-back}
 use Rattle.printing.specs.Input.{asks, unclear, mostBytes, tableWords, poolWords, notEmpty, tableLine, poolLine, oneAt, numbersFrom, withNumbers, withStart, withPool, withTable, inputOf}
 use Rattle.printing.specs.declared.input.One.{One}
 use Rattle.printing.specs.declared.input.One.the-variants.{Number, Not}

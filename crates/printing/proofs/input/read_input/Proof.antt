@@ -13,23 +13,35 @@ read-input-spec =
     (λ c κs. search needs)
     (λ c. search needs)
     (λ c. search needs)
-    (λ c. read-no-table (c .before .before .read-table .ensures) (c .enum-told .given .1))
+    (λ c. let at-read-table = c .before .before in read-no-table (at-read-table .read-table .ensures) (c .enum-told .given .1))
     (λ c κs. search needs)
     (λ c. search needs)
     (λ c. search needs)
-    (λ c. read-no-pool (c .before .before .before .before .before .before .before .read-table .ensures)
-    (c .before .before .before .before .before .table-count .given .1) (c .before .before .numbers-at .ensures) (omega arith) (c .enum-told2 .given .1))
+    (λ c. let at-numbers-at = c .before .before in
+    let at-table-count = at-numbers-at .before .before .before in
+    let at-read-table = at-table-count .before .before in
+    read-no-pool (at-read-table .read-table .ensures) (at-table-count .table-count .given .1) (at-numbers-at .numbers-at .ensures) (omega arith) (c .enum-told2 .given .1))
     (λ c κs. search needs)
     (λ c. search needs)
     (λ c. search needs)
-    (λ c. read-no-start (c .before .before .before .before .before .before .before .before .before .before .before .read-table .ensures)
-    (c .before .before .before .before .before .before .before .before .before .table-count .given .1)
-    (c .before .before .before .before .before .before .numbers-at .ensures) (omega arith) (c .before .before .before .before .pool-count .given .1)
-    (c .before .before .one-at .ensures) (c .enum-told3 .given .1))
+    (λ c. let at-one-at = c .before .before in
+    let at-pool-count = at-one-at .before .before in
+    let at-numbers-at = at-pool-count .before .before in
+    let at-table-count = at-numbers-at .before .before .before in
+    let at-read-table = at-table-count .before .before in
+    read-no-start (at-read-table .read-table .ensures) (at-table-count .table-count .given .1) (at-numbers-at .numbers-at .ensures) (omega arith) (at-pool-count .pool-count .given .1) (at-one-at .one-at .ensures) (c .enum-told3 .given .1))
     (λ c κs. search needs)
-    (λ c. read-all (c .before .before .before .before .before .before .before .before .before .before .before .before .before .before .read-table .ensures)
-    (c .before .before .before .before .before .before .before .before .before .before .before .before .table-count .given .1)
-    (c .before .before .before .before .before .before .before .before .before .numbers-at .ensures) (omega arith)
-    (c .before .before .before .before .before .before .before .pool-count .given .1) (c .before .before .before .before .before .one-at .ensures)
-    (c .before .before .before .start .given .1) (c .before .one-each .ensures) (c .if1 .taken))
-    (λ c. read-no-numbers (c .before .before .before .before .before .before .before .before .before .before .before .before .before .before .read-table .ensures) (c .before .before .before .before .before .before .before .before .before .before .before .before .table-count .given .1) (c .before .before .before .before .before .before .before .before .before .numbers-at .ensures) (omega arith) (c .before .before .before .before .before .before .before .pool-count .given .1) (c .before .before .before .before .before .one-at .ensures) (c .before .before .before .start .given .1) (c .before .one-each .ensures) (c .if1 .left)))
+    (λ c. let at-start = c .before .before .before in
+    let at-one-at = at-start .before .before in
+    let at-pool-count = at-one-at .before .before in
+    let at-numbers-at = at-pool-count .before .before in
+    let at-table-count = at-numbers-at .before .before .before in
+    let at-read-table = at-table-count .before .before in
+    read-all (at-read-table .read-table .ensures) (at-table-count .table-count .given .1) (at-numbers-at .numbers-at .ensures) (omega arith) (at-pool-count .pool-count .given .1) (at-one-at .one-at .ensures) (at-start .start .given .1) (c .before .one-each .ensures) (c .if1 .taken))
+    (λ c. let at-start = c .before .before .before in
+    let at-one-at = at-start .before .before in
+    let at-pool-count = at-one-at .before .before in
+    let at-numbers-at = at-pool-count .before .before in
+    let at-table-count = at-numbers-at .before .before .before in
+    let at-read-table = at-table-count .before .before in
+    read-no-numbers (at-read-table .read-table .ensures) (at-table-count .table-count .given .1) (at-numbers-at .numbers-at .ensures) (omega arith) (at-pool-count .pool-count .given .1) (at-one-at .one-at .ensures) (at-start .start .given .1) (c .before .one-each .ensures) (c .if1 .left)))
