@@ -1,5 +1,2 @@
--- What the calls cite of their fields and of their lent buffers.
+-- What the calls cite of their lent buffers.
 pub mod Buffers
-pub mod Taking
-pub mod Forms
-mod Comparing

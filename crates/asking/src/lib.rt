@@ -1,6 +1,3 @@
-// What more than one call stands on: the fields of its line, the buffer that is lent to it, and the texts
-// that calls print.
+// What more than one call stands on: the buffer that is lent to it, and the texts that calls print.
 pub mod answers;
 pub mod buffer;
-pub mod fields;
-pub mod same;

@@ -19,17 +19,16 @@ use Rattle.texts.specs.Ascii.{bytes}
 use Rattle.texts.specs.Line.{Reading, numbers, unreadable, lineAt, within, ReadLine}
 use Rattle.texts.specs.declared.line.Line.{Line}
 use Rattle.texts.specs.declared.line.Line.the-variants.{Numbers, Unreadable as NoLine}
-use Rattle.texts.proofs.line.Outcomes.{read-numbers, read-unreadable}
+use Rattle.texts.proofs.line.Answered.{within-room, read-numbers, read-unreadable}
 use Rattle.texts.specs.Page.{Puts, Waits}
 use Rattle.texts.specs.Said.{unreadableText}
 use Rattle.texts.proofs.page.Putting.{none, told, _then_}
-use Rattle.asking.specs.Same.{same}
+use Rattle.calling.specs.Same.{same}
 use Rattle.calling.specs.Line.{readable}
 use Rattle.calling.specs.Calls.{Known, nothing, lineText}
 use Rattle.calling.specs.Input.{lineSize, after, lineOf, mostTableWords, mostPoolWords, bothRead, tableAt, isTable, saidAt, nextAt, nextKnown, printedBy, printed}
 use Rattle.calling.specs.State.{knownOf, Within, Tables, Turns}
 use Rattle.calling.specs.declared.state.State.{State}
-use Rattle.asking.proofs.Taking.{within-room}
 
 -- ---- the place after a line
 size-some : (b : ℕ) (bs : List ℕ) (q : Bool) → eqb b 10 ≡ q → lineSize (b ∷ bs) ≡ cond q 1 (suc (lineSize bs))

@@ -15,7 +15,7 @@ use Rattle.grammar.specs.Verdict.{verdict}
 use Rattle.lists.proofs.Fills.{part-old}
 use Rattle.texts.specs.Ascii.{bytes}
 use Rattle.texts.specs.Said.{unreadableText}
-use Rattle.asking.specs.Same.{same}
+use Rattle.calling.specs.Same.{same}
 use Rattle.case_calls.specs.Check.{checkText}
 use Rattle.calling.specs.Line.{wordSize}
 use Rattle.calling.specs.Calls.{checkCall, alone, Entry, entry, calls, chosen, lineText}

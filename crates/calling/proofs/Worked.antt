@@ -23,7 +23,7 @@ use Rattle.texts.specs.Line.{spaced}
 use Rattle.texts.specs.Said.{unreadableText, refusedText, refusedLine}
 use Rattle.asking.specs.Texts.{numberText, numberLine, itemText, refusedItem, itemsText, cellsText}
 use Rattle.calling.specs.Line.{readable, wordSize}
-use Rattle.asking.specs.Same.{same}
+use Rattle.calling.specs.Same.{same}
 use Rattle.case_calls.specs.Check.{checkText}
 use Rattle.case_calls.specs.Read.{readText}
 use Rattle.case_calls.specs.Write.{writeText, caseText}

@@ -13,9 +13,8 @@ use Rattle.grammar.specs.Verdict.{verdict}
 use Rattle.cases.specs.Read.{reads}
 use Rattle.texts.specs.Ascii.{bytes}
 use Rattle.texts.specs.Said.{unreadableText}
-use Rattle.asking.specs.Fields.{fieldsOf}
-use Rattle.asking.specs.Forms.{withCells, withBuffer}
-use Rattle.asking.specs.Same.{same}
+use Rattle.calling.specs.Fields.{fieldsOf, withCells, withBuffer}
+use Rattle.calling.specs.Same.{same}
 use Rattle.case_calls.specs.Check.{checkText}
 use Rattle.case_calls.specs.Read.{readText}
 use Rattle.case_calls.specs.Write.{caseText}

@@ -6,13 +6,13 @@ ghost use Rattle.calling.specs.Calls.{checkCall, rowCalls, calls, chosen
 ghost use Rattle.calling.specs.State.{knownOf};
 use super::cells;
 use super::cells::Ask;
+use super::fields::MOST_FIELDS;
+use super::fields::MOST_ROOM;
 use super::lent;
 use super::lent::Way;
+use super::line::same;
 use super::line::word_size;
 use super::state::State;
-use asking::fields::MOST_FIELDS;
-use asking::fields::MOST_ROOM;
-use asking::same::same;
 use texts::page::PAGE_BYTES;
 use texts::said::unreadable;
 

@@ -2,15 +2,16 @@
 ghost use Prim.Native.Nat.{_-_, _≤_};
 ghost use lib.ListN.{length, take, drop};
 ghost use Rattle.texts.specs.Page.{Puts};
-ghost use Rattle.asking.specs.Fields.{fieldsOf};
-ghost use Rattle.asking.specs.Forms.{withCells};
+ghost use Rattle.calling.specs.Fields.{fieldsOf, withCells};
 ghost use Rattle.calling.specs.Calls.{askText};
-use asking::fields::AFTER_START;
-use asking::fields::MOST_FIELDS;
-use asking::fields::Taken;
-use asking::fields::take;
+use super::fields::AFTER_START;
+use super::fields::FIELDS_AT;
+use super::fields::MOST_FIELDS;
+use super::fields::MOST_ROW;
 use case_calls::read;
 use row_calls::reader;
+use texts::line::Line;
+use texts::line::numbers_at;
 use texts::page::PAGE_BYTES;
 use texts::said::unreadable;
 
@@ -31,9 +32,15 @@ pub fn answer(
     ensures { λ r. ⌜ Puts (withCells (askText ask (now (table .entry)) (now (pool .entry))) (fieldsOf (now (rest .entry)))) (now (page .entry)) used
         (now (page .exit)) r ⌝ }
 {
-    let Taken::Count(count) = take(rest, AFTER_START, fields) else {
+    let Line::Numbers(count, _) = numbers_at(rest, FIELDS_AT, fields) else {
         return unreadable(page, used);
     };
+    if count == 0 {
+        return unreadable(page, used);
+    }
+    if AFTER_START + MOST_ROW < count {
+        return unreadable(page, used);
+    }
     let start = fields[0] as usize;
     lend(ask, table, pool, start, fields, count, page, used)
 }

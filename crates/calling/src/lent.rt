@@ -2,18 +2,18 @@
 ghost use Prim.Native.Nat.{_-_, _≤_};
 ghost use lib.ListN.{length, take, drop};
 ghost use Rattle.texts.specs.Page.{Puts};
-ghost use Rattle.asking.specs.Fields.{fieldsOf};
-ghost use Rattle.asking.specs.Forms.{withBuffer};
+ghost use Rattle.calling.specs.Fields.{fieldsOf, withBuffer};
 ghost use Rattle.calling.specs.Calls.{alone, wayText};
 ghost use Rattle.case_calls.specs.Write.{caseText};
-use asking::fields::AFTER_ROOM;
-use asking::fields::Lent;
-use asking::fields::MOST_FIELDS;
-use asking::fields::MOST_ROOM;
-use asking::fields::take_lent;
+use super::fields::AFTER_ROOM;
+use super::fields::FIELDS_AT;
+use super::fields::MOST_FIELDS;
+use super::fields::MOST_ROOM;
 use case_calls::write;
 use row_calls::read_row;
 use row_calls::write_row;
+use texts::line::Line;
+use texts::line::numbers_at;
 use texts::page::PAGE_BYTES;
 use texts::said::unreadable;
 
@@ -36,9 +36,17 @@ pub fn answer(
     ensures { λ r. ⌜ Puts (withBuffer (wayText way (now (table .entry)) (now (pool .entry))) (fieldsOf (now (rest .entry)))) (now (page .entry)) used
         (now (page .exit)) r ⌝ }
 {
-    let Lent::Of(start, room, count) = take_lent(rest, fields) else {
+    let Line::Numbers(count, _) = numbers_at(rest, FIELDS_AT, fields) else {
         return unreadable(page, used);
     };
+    if count < AFTER_ROOM {
+        return unreadable(page, used);
+    }
+    let start = fields[0] as usize;
+    let room = fields[1] as usize;
+    if MOST_ROOM < room {
+        return unreadable(page, used);
+    }
     lend(
         way,
         table,

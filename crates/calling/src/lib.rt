@@ -2,6 +2,7 @@
 // decided here: words are lent, a call is made, and what came back is printed.
 mod calls;
 mod cells;
+mod fields;
 mod lent;
 mod line;
 mod state;
@@ -13,10 +14,10 @@ ghost use Rattle.texts.specs.Page.{Waits};
 ghost use Rattle.calling.specs.Input.{printed};
 ghost use Rattle.calling.specs.Line.{readable as isReadable};
 ghost use Rattle.calling.specs.State.{Within, Turns};
-use asking::fields::MOST_FIELDS;
-use asking::fields::MOST_ROOM;
-use asking::same::same;
+use fields::MOST_FIELDS;
+use fields::MOST_ROOM;
 use libc::STDIN_FILENO;
+use line::same;
 use state::MOST_POOL_WORDS;
 use state::MOST_TABLE_WORDS;
 use state::State;

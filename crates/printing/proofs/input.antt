@@ -1,4 +1,3 @@
--- How an input is read.
+-- How the lines of an input are read.
 pub mod Numbers
 mod Lines
-mod Whole

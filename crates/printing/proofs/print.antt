@@ -1,5 +1,4 @@
 -- What is printed, on a page.
-pub mod Lines
 mod Starts
 mod Cases
 mod Whole

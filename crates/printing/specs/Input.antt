@@ -1,10 +1,10 @@
 -- What an input asks for. 01: "at most 65,536 bytes of lines ended by LF: table words, pool words (this line alone may be empty), start node, then one number a line"
---   Input          the table, the pool, the start node, the place of the first number's line and the numbers; or it is unreadable
+--   Input          the table, the pool, the start node and the numbers; or it is unreadable
 --   tableLine, poolLine   the first line, and the second, which stands at a place
 --   oneAt          the number that is alone on the line at a place, and the place after the line
 --   numbersFrom    the numbers from a place to the text's end, one a line
 --   inputOf        what a text asks for
---   ReadTable, ReadInput   what reading the first line, and a whole text, answers and leaves in the words lent for it
+--   ReadTable      what reading the first line answers, and leaves in the words lent for it
 -- Assumes nothing.
 use mathlib.Core.Path.{_≡_}
 use mathlib.Core.Bool.{Bool, true, false, cond}
@@ -17,11 +17,9 @@ use Rattle.texts.specs.Line.{Reading, numbers, unreadable, lineAt, within, answ
 use Rattle.texts.specs.declared.line.Line.{Line}
 use Rattle.printing.specs.declared.input.One.{One}
 use Rattle.printing.specs.declared.input.One.the-variants.{Number, Not}
-use Rattle.printing.specs.declared.input.Asked.{Asked}
-use Rattle.printing.specs.declared.input.Asked.the-variants.{Cases, Unreadable}
 
 pub data Input : Type 0 where
-  asks : (table pool : List ℕ) (start at : ℕ) (ns : List ℕ) → Input
+  asks : (table pool : List ℕ) (start : ℕ) (ns : List ℕ) → Input
   unclear : Input
 
 -- ---- the lines
@@ -69,12 +67,12 @@ unfoldable pub numbersFrom : List ℕ → ℕ → Option (List ℕ)
 numbersFrom text at = numbersBy (suc (length text)) text at
 
 -- ---- the whole text: each line stands behind the one before
-abbrev pub withNumbers : List ℕ → List ℕ → ℕ → ℕ → Option (List ℕ) → Input
-withNumbers t p i at (some ns) = asks t p i at ns
-withNumbers t p i at none = unclear
+abbrev pub withNumbers : List ℕ → List ℕ → ℕ → Option (List ℕ) → Input
+withNumbers t p i (some ns) = asks t p i ns
+withNumbers t p i none = unclear
 
 abbrev pub withStart : List ℕ → List ℕ → List ℕ → One → Input
-withStart text t p (Number i at) = withNumbers t p i at (numbersFrom text at)
+withStart text t p (Number i at) = withNumbers t p i (numbersFrom text at)
 withStart text t p Not = unclear
 
 abbrev pub withPool : List ℕ → List ℕ → Reading → Input
@@ -96,17 +94,3 @@ pub record ReadTable (text old last : List ℕ) (r : Line) : Type 0 where
 abbrev pub readable : Option (List ℕ) → Bool
 readable (some ns) = true
 readable none = false
-
-abbrev pub asked : Input → Asked
-asked (asks t p i at ns) = Cases (length t) (length p) i at
-asked unclear = Unreadable
-
--- the pool's words are stored where its line is reached
-abbrev pub poolStored : List ℕ → List ℕ → Reading → List ℕ
-poolStored text old (numbers t at) = stored old (poolLine text at)
-poolStored text old unreadable = old
-
-pub record ReadInput (text tableOld tableLast poolOld poolLast : List ℕ) (r : Asked) : Type 0 where
-  pub answers : r ≡ asked (inputOf text)
-  pub table : tableLast ≡ stored tableOld (tableLine text)
-  pub pool : poolLast ≡ poolStored text poolOld (tableLine text)

@@ -56,7 +56,7 @@ judged Accepted lines = lines
 judged (Refused r k) lines = refusedLine r k
 
 unfoldable pub told : Input → List ℕ
-told (asks t p i at ns) = judged (started t p i) (casesOf t p i ns)
+told (asks t p i ns) = judged (started t p i) (casesOf t p i ns)
 told unclear = unreadableText
 
 unfoldable pub printed : List ℕ → List ℕ

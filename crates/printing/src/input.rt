@@ -1,6 +1,6 @@
-// What an input asks for. All of it is read before anything is answered.
+// The lines of an input.
 ghost use mathlib.Core.Path.{_≡_};
-ghost use Rattle.printing.specs.Input.{oneAt, numbersFrom, readable, ReadTable, ReadInput};
+ghost use Rattle.printing.specs.Input.{oneAt, numbersFrom, readable, ReadTable};
 use texts::line::Line;
 use texts::line::numbers_at;
 
@@ -13,12 +13,6 @@ pub const INPUT_ROOM: usize = MOST_BYTES + 1;
 pub const TABLE_WORDS: usize = 768;
 
 pub const POOL_WORDS: usize = 4096;
-
-// How many words the table and the pool have, the start node, and the place of the first number's line.
-pub enum Asked {
-    Cases(usize, usize, u64, usize),
-    Unreadable,
-}
 
 // The number that is alone on a line, and the place after the line.
 pub enum One {
@@ -43,7 +37,7 @@ pub fn one_at(text: &[u8], at: usize) -> One
 }
 
 // Whether each line from a place on is a number, and the last one ends the text.
-fn one_each(text: &[u8], from: usize) -> bool
+pub fn one_each(text: &[u8], from: usize) -> bool
     ensures { λ r. ⌜ r ≡ readable (numbersFrom (now (text .entry)) from) ⌝ }
 {
     let mut at = from;
@@ -57,7 +51,7 @@ fn one_each(text: &[u8], from: usize) -> bool
 }
 
 // The first line: the table's words, of which there is one at least.
-fn read_table(text: &[u8], table: &mut [u64; TABLE_WORDS]) -> Line
+pub fn read_table(text: &[u8], table: &mut [u64; TABLE_WORDS]) -> Line
     ensures { λ r. ⌜ ReadTable (now (text .entry)) (now (table .entry)) (now (table .exit)) r ⌝ }
 {
     if INPUT_ROOM <= text.len() {
@@ -72,27 +66,4 @@ fn read_table(text: &[u8], table: &mut [u64; TABLE_WORDS]) -> Line
         }
         Line::Unreadable => Line::Unreadable,
     }
-}
-
-// "table words, pool words (this line alone may be empty), start node, then one number a line"
-pub fn read_input(
-    text: &[u8],
-    table: &mut [u64; TABLE_WORDS],
-    pool: &mut [u64; POOL_WORDS],
-) -> Asked
-    ensures { λ r. ⌜ ReadInput (now (text .entry)) (now (table .entry)) (now (table .exit)) (now (pool .entry)) (now (pool .exit)) r ⌝ }
-{
-    let Line::Numbers(table_count, pool_at) = read_table(text, table) else {
-        return Asked::Unreadable;
-    };
-    let Line::Numbers(pool_count, start_at) = numbers_at(text, pool_at, pool) else {
-        return Asked::Unreadable;
-    };
-    let One::Number(start, from) = one_at(text, start_at) else {
-        return Asked::Unreadable;
-    };
-    if one_each(text, from) {
-        return Asked::Cases(table_count, pool_count, start, from);
-    }
-    Asked::Unreadable
 }

@@ -3,16 +3,18 @@ ghost use mathlib.Core.Path.{_≡_};
 ghost use Rattle.texts.specs.Page.{Puts, Waits};
 ghost use Rattle.printing.specs.Texts.{caseText, caseRefusedText};
 ghost use Rattle.printing.specs.Printed.{started, caseLine, printed, Judges, Answers};
-use super::input::Asked;
 use super::input::One;
 use super::input::POOL_WORDS;
 use super::input::TABLE_WORDS;
 use super::input::one_at;
-use super::input::read_input;
+use super::input::one_each;
+use super::input::read_table;
 use cases::Written;
 use grammar::refusal::Refusal;
 use grammar::refusal::Verdict;
 use grammar::refusal::number_of;
+use texts::line::Line;
+use texts::line::numbers_at;
 use texts::page::PAGE_BYTES;
 use texts::page::flush;
 use texts::page::put_line;
@@ -41,7 +43,8 @@ fn finish(text: &[u8], page: &[u8; PAGE_BYTES], used: usize)
     flush(page, used);
 }
 
-// Reads a whole input. "Anything else prints only `unreadable`."
+// "table words, pool words (this line alone may be empty), start node, then one number a line"; "Anything
+// else prints only `unreadable`". All of it is read before anything is answered.
 fn answer(
     text: &[u8],
     table: &mut [u64; TABLE_WORDS],
@@ -50,21 +53,28 @@ fn answer(
 ) -> usize
     ensures { λ r. ⌜ Puts (printed (now (text .entry))) (now (page .entry)) 0 (now (page .exit)) r ⌝ }
 {
-    match read_input(text, table, pool) {
-        Asked::Cases(table_count, pool_count, first, from) => {
-            let words: &[u64] = table;
-            let codes: &[u64] = pool;
-            judge(
-                text,
-                from,
-                &words[..table_count],
-                &codes[..pool_count],
-                first as usize,
-                page,
-            )
-        }
-        Asked::Unreadable => unreadable(page, 0),
+    let Line::Numbers(table_count, pool_at) = read_table(text, table) else {
+        return unreadable(page, 0);
+    };
+    let Line::Numbers(pool_count, start_at) = numbers_at(text, pool_at, pool) else {
+        return unreadable(page, 0);
+    };
+    let One::Number(first, from) = one_at(text, start_at) else {
+        return unreadable(page, 0);
+    };
+    if !one_each(text, from) {
+        return unreadable(page, 0);
     }
+    let words: &[u64] = table;
+    let codes: &[u64] = pool;
+    judge(
+        text,
+        from,
+        &words[..table_count],
+        &codes[..pool_count],
+        first as usize,
+        page,
+    )
 }
 
 // The print of an accepted table's input is that of its numbers; of any other it is one line.

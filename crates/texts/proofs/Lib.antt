@@ -2,5 +2,5 @@
 pub mod Fronts
 pub mod Decimals
 pub mod Sizes
-pub mod Laws
+pub mod ReadBack
 mod Worked

@@ -1,6 +1,6 @@
 -- The laws of lines, what callers know of a line that was read, and how it is read.
-pub mod Laws
-pub mod Outcomes
+pub mod ReadBack
+pub mod Answered
 mod Words
 mod Rest
 mod Counting

@@ -1,5 +1,5 @@
 -- The laws of numerals, and how one is read.
-pub mod Laws
+pub mod ReadBack
 pub mod Digits
 mod Runs
 mod Values

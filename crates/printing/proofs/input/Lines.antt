@@ -11,7 +11,7 @@ use borrow.Author.Tests.{le-leb, lt-leb}
 use Rattle.texts.specs.Line.{Reading, numbers, unreadable, lineAt, within, answer, stored, ReadLine}
 use Rattle.texts.specs.declared.line.Line.{Line}
 use Rattle.texts.specs.declared.line.Line.the-variants.{Numbers, Unreadable}
-use Rattle.texts.proofs.line.Outcomes.{read-numbers, read-unreadable}
+use Rattle.texts.proofs.line.Answered.{read-numbers, read-unreadable}
 use Rattle.printing.specs.Input.{mostBytes, tableWords, notEmpty, tableLine, alone, oneAt, ReadTable}
 use Rattle.printing.specs.declared.input.One.the-variants.{Number, Not}
 

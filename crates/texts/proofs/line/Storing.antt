@@ -17,7 +17,7 @@ use Rattle.texts.specs.Line.{Reading, numbers, unreadable, lineAt, withi
 use Rattle.texts.specs.declared.numeral.Numeral.{Numeral}
 use Rattle.texts.specs.declared.numeral.Numeral.the-variants.{Of, Not}
 use Rattle.texts.proofs.Fronts.{front-more, front-length, front-all}
-use Rattle.texts.proofs.line.Outcomes.{readable-not, within-back}
+use Rattle.texts.proofs.line.Answered.{readable-not, within-back}
 use Rattle.texts.proofs.line.Rest.{restAt, onto, line-some, rest-not, rest-over, rest-lf, rest-space, rest-other}
 
 -- ---- one number of the rest

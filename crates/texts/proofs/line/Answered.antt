@@ -10,7 +10,7 @@ use Prim.Native.Nat.{ℕ, _≤_}
 use native.Mathlib.Omega.{arith}
 use lib.Dec.{leb}
 use lib.ListN.{length, drop}
-use borrow.Author.Tests.{leb-true}
+use borrow.Author.Tests.{leb-true, le-leb}
 use Rattle.texts.specs.Line.{Reading, numbers, unreadable, lineAt, within, answer, stored, ReadLine}
 use Rattle.texts.specs.declared.line.Line.{Line}
 use Rattle.texts.specs.declared.line.Line.the-variants.{Numbers, Unreadable}
@@ -25,6 +25,9 @@ within-back room (numbers ms end) {ns} {next} e = by (leb (length ms) room) refl
     by true t f = let same : ms ≡ ns = cc in (f, rw same at (leb-true (length ms) room t))
     by false t f = absurd (readable-not f)
 within-back room unreadable e = absurd (readable-not e)
+
+pub within-room : (ns : List ℕ) (next : ℕ) {room : ℕ} → length ns ≤ room → within room (numbers ns next) ≡ numbers ns next
+within-room ns next {room} l = rw (le-leb (length ns) room l)
 
 pub record ReadNumbers (text : List ℕ) (at : ℕ) (old last : List ℕ) (count next : ℕ) : Type 0 where
   pub ns : List ℕ

@@ -12,8 +12,11 @@ use lib.Dec.{eqb}
 use lib.ListN.{length, getD, drop, drop-of-length-le}
 use lib.Seq.{drop-cons}
 use borrow.Author.Tests.{eq-eqb, ne-eqb}
-use Rattle.asking.specs.Same.{same}
-use Rattle.asking.proofs.Taking.{and-not}
+use Rattle.calling.specs.Same.{same}
+
+and-not : (a : Bool) {b : Bool} → b ≡ false → (a && b) ≡ false
+and-not true e = e
+and-not false e = refl
 
 pub same-long : (xs ys : List ℕ) → (length xs ≡ length ys → ⊥) → false ≡ same xs ys
 unfolding same

@@ -19,8 +19,8 @@ use Rattle.texts.specs.Decimal.{decimal}
 use Rattle.texts.specs.Line.{numbers, ended, longer, words, whole, numberOf, both, numbersOf, lineNumbers, upTo, lineBy, lineAt, lineText}
 use Rattle.texts.specs.declared.numeral.Numeral.{Numeral}
 use Rattle.texts.specs.declared.numeral.Numeral.the-variants.{Of, Not}
-use Rattle.texts.proofs.numeral.Laws.{decimal-digits, decimal-numeral, one-text, number-word}
-use Rattle.texts.proofs.line.Outcomes.{readable-not}
+use Rattle.texts.proofs.numeral.ReadBack.{decimal-digits, decimal-numeral, one-text, number-word}
+use Rattle.texts.proofs.line.Answered.{readable-not}
 use Rattle.texts.proofs.line.Words.{FirstWord, words-some, number-of}
 use Rattle.texts.proofs.line.Rest.{restBy, at-lf, at-space}
 

@@ -13,9 +13,9 @@ use Rattle.texts.specs.Decimal.{decimal}
 use Rattle.texts.specs.Line.{numbers, lineAt, lineText}
 use Rattle.texts.specs.declared.numeral.Numeral.the-variants.{Of}
 use Rattle.texts.proofs.numeral.Digits.{Stops}
-use Rattle.texts.proofs.numeral.Laws as numeral
-use Rattle.texts.proofs.line.Laws as line
-use Rattle.texts.proofs.line.Laws.{AllWords}
+use Rattle.texts.proofs.numeral.ReadBack as numeral
+use Rattle.texts.proofs.line.ReadBack as line
+use Rattle.texts.proofs.line.ReadBack.{AllWords}
 
 -- ---- numbers; behind the text of one no digit may stand
 pub reads-back : (n : ℕ) (rest : List ℕ) → n < 2 ^ 64 → Stops rest → numeralAt (decimal n ++ rest) 0 ≡ Of n (length (decimal n))
