@@ -16,7 +16,7 @@ use Rattle.texts.specs.Line.{ended, words, numberOf as numberOfWord, numbersOf,
 use Rattle.texts.specs.Said.{unreadableText, refusedText, refusedLine}
 use Rattle.printing.specs.Texts.{caseText, caseRefusedText}
 use Rattle.printing.specs.Input.{tableLine, poolLine, oneAt, numbersBy, numbersFrom, inputOf}
-use Rattle.printing.specs.Printed.{started, caseLine, casesOf, told, printed}
+use Rattle.printing.specs.Printed.{caseLine, casesOf, told, printed}
 
 data Print : Type 0 where
   prints-as : String → String → Print
@@ -50,6 +50,6 @@ prints =
 
 worked : map asked prints ≡ map expected prints
 unfolding walking fitted opening writes run valueFrom wellFormed numeral decimalBy decimal ended words numberOfWord numbersOf lineAt lineText
-    unreadableText refusedText refusedLine caseText caseRefusedText tableLine poolLine oneAt numbersBy numbersFrom inputOf started caseLine casesOf
+    unreadableText refusedText refusedLine caseText caseRefusedText tableLine poolLine oneAt numbersBy numbersFrom inputOf caseLine casesOf
     told printed
 worked = refl

@@ -2,7 +2,8 @@
 ghost use mathlib.Core.Path.{_≡_};
 ghost use Rattle.texts.specs.Page.{Puts, Waits};
 ghost use Rattle.printing.specs.Texts.{caseText, caseRefusedText};
-ghost use Rattle.printing.specs.Printed.{started, caseLine, printed, Judges, Answers};
+ghost use Rattle.checked.specs.Opening.{opening};
+ghost use Rattle.printing.specs.Printed.{caseLine, printed, Judges, Answers};
 use super::input::One;
 use super::input::POOL_WORDS;
 use super::input::TABLE_WORDS;
@@ -10,6 +11,8 @@ use super::input::one_at;
 use super::input::one_each;
 use super::input::read_table;
 use cases::Written;
+use checked::opened::begin;
+use checked::prepared::PLAN;
 use grammar::refusal::Refusal;
 use grammar::refusal::Verdict;
 use grammar::refusal::number_of;
@@ -96,17 +99,10 @@ fn judge(
 
 // "A refused table or start prints only `refused N at K`"
 fn start(table: &[u64], pool: &[u64], start: usize) -> Verdict
-    ensures { λ r. ⌜ r ≡ started (now (table .entry)) (now (pool .entry)) start ⌝ }
+    ensures { λ r. ⌜ r ≡ opening (now (table .entry)) (now (pool .entry)) start ⌝ }
 {
-    match cases::check(table, pool) {
-        Verdict::Accepted => {
-            if table.len() / 3 <= start {
-                return Verdict::Refused(Refusal::NoSuchStart, 0);
-            }
-            Verdict::Accepted
-        }
-        Verdict::Refused(r, k) => Verdict::Refused(r, k),
-    }
+    let mut plan = [0u64; PLAN];
+    begin(table, pool, &mut plan, start)
 }
 
 // A line for each number from a place on.

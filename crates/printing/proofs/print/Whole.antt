@@ -18,7 +18,7 @@ use Rattle.texts.specs.Said.{unreadableText}
 use Rattle.texts.specs.declared.line.Line.{Line}
 use Rattle.texts.specs.declared.line.Line.the-variants.{Numbers, Unreadable}
 use Rattle.texts.proofs.line.Answered.{within-room, ReadNumbers, read-numbers, read-unreadable}
-use Rattle.printing.specs.Input.{Input, unclear, poolWords, tableLine, poolLine, oneAt, numbersFrom, withNumbers, withStart, withPool, inputOf, ReadTable, readable}
+use Rattle.printing.specs.Input.{unclear, poolWords, tableLine, poolLine, oneAt, numbersFrom, withNumbers, withStart, withPool, inputOf, ReadTable, readable}
 use Rattle.printing.specs.Printed.{told, printed, Judges}
 use Rattle.printing.specs.declared.input.One.{One}
 use Rattle.printing.specs.declared.input.One.the-variants.{Number, Not}
