@@ -16,7 +16,6 @@ ghost use Rattle.calling.specs.Line.{readable as isReadable};
 ghost use Rattle.calling.specs.State.{Within, Turns};
 use fields::MOST_FIELDS;
 use fields::MOST_ROOM;
-use libc::STDIN_FILENO;
 use line::same;
 use state::MOST_POOL_WORDS;
 use state::MOST_TABLE_WORDS;
@@ -29,16 +28,8 @@ use texts::said;
 // One byte more than the longest input, to see that an input is longer: it is unreadable as a whole.
 pub const INPUT_ROOM: usize = 4194305;
 
-// Answers standard input on standard output. The room is lent, and not this function's own: of a
-// local array a proof writes out every byte.
-pub fn answer_input(room: &mut [u8; INPUT_ROOM]) {
-    let size = io::read_full(STDIN_FILENO, room);
-    let text: &[u8] = room;
-    answer_all(&text[..size]);
-}
-
 // Answers each line of an input on standard output.
-fn answer_all(text: &[u8]) {
+pub fn answer_all(text: &[u8]) {
     let mut page = [0u8; PAGE_BYTES];
     let mut state = state::without_table(0, 0);
     if !readable(text) {
