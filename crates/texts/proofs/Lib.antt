@@ -2,5 +2,4 @@
 pub mod Fronts
 pub mod Decimals
 pub mod Sizes
-pub mod ReadBack
 mod Worked

@@ -1,21 +1,16 @@
 -- Worked cases, computed: what each definition gives, beside what it must give.
---   bytes      the bytes of an ASCII text
 --   numerals-worked, lines-worked, texts-worked    numeralAt and lineAt at a place, decimal
 -- Assumes nothing.
 use mathlib.Core.Path.{_≡_, refl}
 use mathlib.Core.List.{List, [], _∷_, map}
 use Prim.Native.Nat.{ℕ, _-_, _^_}
-use Prim.Native.Char.{code}
 use Prim.Native.String.{String}
+use Rattle.texts.specs.Ascii.{bytes}
 use Rattle.texts.specs.Numeral.{run, valueFrom, wellFormed, numeral, numeralAt}
 use Rattle.texts.specs.Decimal.{decimalBy, decimal}
 use Rattle.texts.specs.Line.{Reading, numbers, unreadable, ended, words, numberOf, numbersOf, lineAt}
 use Rattle.texts.specs.declared.numeral.Numeral.{Numeral}
 use Rattle.texts.specs.declared.numeral.Numeral.the-variants.{Of, Not}
-
-abbrev bytes : String → List ℕ
-bytes String.[] = []
-bytes (String._∷_ c s) = code c ∷ bytes s
 
 -- a text, a place in it, and the outcome
 data Case (A : Type 0) : Type 0 where

@@ -14,21 +14,21 @@ answer-line-spec =
     (λ c κs. omega (arith, c .before .pre .1))
     (λ c. next-from _ _ (c .after .ensures))
     (λ c. next-from _ _ (c .after .ensures))
-    (λ c. next-within _ _ (c .after .ensures) (c .before .before .pre .0 .start))
+    (λ c. let at-pre = c .before .before in next-within _ _ (c .after .ensures) (at-pre .pre .0 .start))
     (λ c. search needs)
     (λ c κs. search needs)
-    (λ c κs. next-within _ _ (c .before .before .before .before .before .before .before .after .ensures)
-    (c .before .before .before .before .before .before .before .before .before .pre .0 .start))
-    (λ c. turn-table _ _ (c .before .before .before .before .before .before .before .before .before .before .pre .1)
-    (c .before .before .before .before .before .before .before .before .after .ensures) (c .before .before .before .before .before .same .ensures)
-    (c .before .before .before .before .if1 .taken) (c .take-table .ensures))
-    (λ c κs. (
-      omega (arith, c .before .before .before .before .before .before .before .before .before .before .before .before .before .pre .0 .table),
-      omega
-          (arith, c .before .before .before .before .before .before .before .before .before .before .before .before .before .pre .0 .pool),
-    ))
-    (λ c. turn-call _ _ (c .before .before .before .before .before .before .before .before .before .before .before .before .before .before .pre .1)
-    (c .before .before .before .before .before .before .before .before .before .before .before .before .after .ensures)
-    (c .before .before .before .before .before .before .before .before .before .same .ensures)
-    (c .before .before .before .before .before .before .before .before .if1 .left) (c .answer .ensures)
-    (c .before .before .before .before .before .before .before .before .before .before .before .before .before .before .pre .0) (refl, refl, refl, refl, refl)))
+    (λ c κs. let at-after = c .before .before .before .before .before .before .before in
+    let at-pre = at-after .before .before in
+    next-within _ _ (at-after .after .ensures) (at-pre .pre .0 .start))
+    (λ c. let at-if1 = c .before .before .before .before in
+    let at-same = at-if1 .before in
+    let at-after = at-same .before .before .before in
+    let at-pre = at-after .before .before in
+    turn-table _ _ (at-pre .pre .1) (at-after .after .ensures) (at-same .same .ensures) (at-if1 .if1 .taken) (c .take-table .ensures))
+    (λ c κs. let at-pre = c .before .before .before .before .before .before .before .before .before .before .before .before .before in
+    (omega (arith, at-pre .pre .0 .table), omega (arith, at-pre .pre .0 .pool)))
+    (λ c. let at-if1 = c .before .before .before .before .before .before .before .before in
+    let at-same = at-if1 .before in
+    let at-after = at-same .before .before .before in
+    let at-pre = at-after .before .before in
+    turn-call _ _ (at-pre .pre .1) (at-after .after .ensures) (at-same .same .ensures) (at-if1 .if1 .left) (c .answer .ensures) (at-pre .pre .0) (refl, refl, refl, refl, refl)))

@@ -15,4 +15,6 @@ done-line-spec =
     (λ c. search needs)
     (λ c κs. search needs)
     (λ c κs. search needs)
-    (λ c. c .before .before .before .before .before .put-number .ensures then c .before .before .put-text .ensures then c .listed-line .ensures))
+    (λ c. let at-put-text = c .before .before in
+    let at-put-number = at-put-text .before .before .before in
+    at-put-number .put-number .ensures then at-put-text .put-text .ensures then c .listed-line .ensures))

@@ -17,5 +17,7 @@ item-line-spec =
     (λ c κs. search needs)
     (λ c. search needs)
     (λ c κs. search needs)
-    (λ c. c .before .before .before .before .before .before .before .before .number .ensures then c .before .before .before .before .before .put-text .ensures
-    then c .before .before .before .put-number .ensures then c .put-text2 .ensures))
+    (λ c. let at-put-number = c .before .before .before in
+    let at-put-text = at-put-number .before .before in
+    let at-number = at-put-text .before .before .before in
+    at-number .number .ensures then at-put-text .put-text .ensures then at-put-number .put-number .ensures then c .put-text2 .ensures))

@@ -16,5 +16,7 @@ refused-at-item-spec =
     (λ c κs. search needs)
     (λ c κs. search needs)
     (λ c κs. search needs)
-    (λ c. c .before .before .before .before .before .before .before .refused .ensures then c .before .before .before .before .put-text .ensures then
-    c .before .before .put-number .ensures then c .end-line .ensures))
+    (λ c. let at-put-number = c .before .before in
+    let at-put-text = at-put-number .before .before in
+    let at-refused = at-put-text .before .before .before in
+    at-refused .refused .ensures then at-put-text .put-text .ensures then at-put-number .put-number .ensures then c .end-line .ensures))
