@@ -14,8 +14,7 @@ ghost use Rattle.grammar.specs.Table.{nodes};
 ghost use Rattle.grammar.specs.kinds.{kindIn};
 ghost use Rattle.grammar.specs.Steps.{Leads};
 ghost use Rattle.grammar.specs.Plan.{sizeIn, Ready};
-ghost use Rattle.cycles.specs.Asked.{OnCycle};
-ghost use Rattle.grammar.specs.Shown.{stepsIn};
+ghost use Rattle.cycles.specs.Asked.{OnCycle, Marks};
 use grammar::kinds::AGAIN;
 use planning::steps::skips;
 use planning::steps::steps_of;
@@ -56,7 +55,7 @@ fn mark_steps(
 )
     requires { ⌜ Ready (now table) (now pool) (now plan) ⌝ }
     requires { ⌜ n < nodes (now table) ⌝ }
-    ensures { λ _. ⌜ now (seen .exit) ≡ marked (now (seen .entry)) (stepsIn guarded (now (table .entry)) (now (pool .entry)) (now (plan .entry)) n) ⌝ }
+    ensures { λ _. ⌜ Marks guarded (now (table .entry)) (now (pool .entry)) (now (plan .entry)) n (now (seen .entry)) (now (seen .exit)) ⌝ }
 {
     let s = steps_of(table, pool, plan, n, guarded);
     mark_one(s.first, s.a, seen);

@@ -5,7 +5,7 @@
 --   GotItems    the same, and nothing changes in a buffer where it is refused
 --   readsRow    the answer for a table, its pool, a start node, a room and the cells; readRowSays its values
 --   GotRow      the answer and the buffer's last words, for every input
---   Gathers, numbersIn   a row that is read whole; its numbers, in the words of a plan
+--   Gathers, numbersIn, Stores   a row that is read whole; its numbers, in the words of a plan, and a buffer that holds them
 -- Assumes nothing.
 use mathlib.Core.Path.{_≡_}
 use mathlib.Core.List.{List, [], _∷_}
@@ -85,3 +85,7 @@ pub record Gathers (x : Gathered) : Type 0 where
 -- the numbers of a row, by the rules of a plan
 abbrev pub numbersIn : List ℕ → List ℕ → ℕ → ℕ → List ℕ → List ℕ
 numbersIn plan p i room cs = gotten (gather (ruleIn plan p) i room cs)
+
+-- and they are stored
+abbrev pub Stores : List ℕ → List ℕ → ℕ → List ℕ → List ℕ → List ℕ → Type 0
+Stores plan p i cs old last = last ≡ over (numbersIn plan p i (length old) cs) old

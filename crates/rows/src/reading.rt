@@ -2,11 +2,10 @@
 ghost use mathlib.Core.Path.{_≡_};
 ghost use lib.ListN.{length, set};
 ghost use Rattle.grammar.specs.Plan.{ruleIn};
-ghost use Rattle.lists.specs.Filled.{over};
 ghost use Rattle.checked.specs.Prepared.{Blank};
 ghost use Rattle.walk.specs.Plan.{Reading};
 ghost use Rattle.checked.specs.Kept.{Kept};
-ghost use Rattle.rows.specs.ReadRow.{gather, Gathers, NumbersOver, GotItems, GotRow};
+ghost use Rattle.rows.specs.ReadRow.{gather, Gathers, NumbersOver, GotItems, GotRow, Stores};
 ghost use Rattle.rows.specs.ReadRow.{numbersIn};
 use super::answer::Row;
 use checked::copy::copy;
@@ -80,7 +79,7 @@ fn settle_numbers(
     requires { ⌜ Reading (now plan) (now pool) start ⌝ }
     requires { ⌜ Gathers (gather (ruleIn (now plan) (now pool)) start (length (now numbers)) (now cells)) ⌝ }
     requires { ⌜ Kept (numbersIn (now plan) (now pool) start (length (now numbers)) (now cells)) (now kept) count (length (now numbers)) ⌝ }
-    ensures { λ _. ⌜ now (numbers .exit) ≡ over (numbersIn (now (plan .entry)) (now (pool .entry)) start (length (now (numbers .entry))) (now (cells .entry))) (now (numbers .entry)) ⌝ }
+    ensures { λ _. ⌜ Stores (now (plan .entry)) (now (pool .entry)) start (now (cells .entry)) (now (numbers .entry)) (now (numbers .exit)) ⌝ }
 {
     if count <= kept.len() {
         copy(kept, count, numbers);

@@ -84,7 +84,8 @@ pub fn counted(a: u64, row: &&[u64], off: u64, at: &mut usize) -> u64
 pub fn listed(words: &&[u64], a: usize, b: usize, row: &&[u64], off: u64, at: &mut usize) -> u64
     requires { ⌜ (b ≤ 4096) × (a + b ≤ length (now (now words))) × (length (now (now words)) ≤ 4096) ⌝ }
     requires { ⌜ (now at ≤ length (now (now row))) × (length (now (now row)) ≤ 65536) ⌝ }
-    ensures { λ r. ⌜ TakenOwn (poolRule (front b (drop a (now (now (words .entry))))) b .tree) off (now (now (row .entry))) (now (at .entry)) (now (at .exit)) r ⌝ }
+    ensures { λ r. ⌜ TakenOwn (poolRule (front b (drop a (now (now (words .entry))))) b .tree) off
+        (now (now (row .entry))) (now (at .entry)) (now (at .exit)) r ⌝ }
 {
     match cell_at(*row, *at, off) {
         Cell::Of(c) => passed(pool::place_of(*words, a, b, c), at),
