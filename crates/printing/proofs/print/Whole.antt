@@ -44,7 +44,8 @@ pub too-long : (text : List ℕ) → mostBytes < length text → unreadableText 
 unfolding inputOf tableLine
 too-long text l = unclear-text text (rw (lt-leb (length text) mostBytes l))
 
-module _ {text : List ℕ} (l : length text ≤ mostBytes) {tOld tLast : List ℕ} {a : Line} (k : ReadLine text 0 tOld tLast a) (wide : length tOld ≡ tableWords) where
+module _ {text : List ℕ} (l : length text ≤ mostBytes) {tOld tLast : List ℕ} {a : Line} (k : ReadLine text 0 tOld tLast a)
+    (wide : length tOld ≡ tableWords) where
   first-line : (x : Reading) → within tableWords (lineAt text 0) ≡ x → tableLine text ≡ notEmpty x
   unfolding tableLine
   first-line x e = rw (le-leb (length text) mostBytes l, e)
