@@ -4,17 +4,15 @@
 --   oneAt          the number that is alone on the line at a place, and the place after the line
 --   numbersFrom    the numbers from a place to the text's end, one a line
 --   inputOf        what a text asks for
---   ReadTable      what reading the first line answers, and leaves in the words lent for it
+--   readable       whether there are such numbers
 -- Assumes nothing.
-use mathlib.Core.Path.{_≡_}
 use mathlib.Core.Bool.{Bool, true, false, cond}
 use mathlib.Core.List.{List, [], _∷_}
 use mathlib.Core.Option.{Option, none, some, Option·map}
 use Prim.Native.Nat.{ℕ, zero, suc}
 use lib.Dec.{leb}
 use lib.ListN.{length}
-use Rattle.texts.specs.Line.{Reading, numbers, unreadable, lineAt, within, answer, stored}
-use Rattle.texts.specs.declared.line.Line.{Line}
+use Rattle.texts.specs.Line.{Reading, numbers, unreadable, lineAt, within}
 use Rattle.printing.specs.declared.input.One.{One}
 use Rattle.printing.specs.declared.input.One.the-variants.{Number, Not}
 
@@ -86,11 +84,7 @@ withTable text unreadable = unclear
 unfoldable pub inputOf : List ℕ → Input
 inputOf text = withTable text (tableLine text)
 
--- ---- what reading promises
-pub record ReadTable (text old last : List ℕ) (r : Line) : Type 0 where
-  pub answers : r ≡ answer (tableLine text)
-  pub leaves : last ≡ stored old (tableLine text)
-
+-- ---- whether each line from a place on is a number
 abbrev pub readable : Option (List ℕ) → Bool
 readable (some ns) = true
 readable none = false

@@ -1,6 +1,6 @@
 // The lines of an input.
 ghost use mathlib.Core.Path.{_≡_};
-ghost use Rattle.printing.specs.Input.{oneAt, numbersFrom, readable, ReadTable};
+ghost use Rattle.printing.specs.Input.{oneAt, numbersFrom, readable};
 use texts::line::Line;
 use texts::line::numbers_at;
 
@@ -48,22 +48,4 @@ pub fn one_each(text: &[u8], from: usize) -> bool
         }
     }
     true
-}
-
-// The first line: the table's words, of which there is one at least.
-pub fn read_table(text: &[u8], table: &mut [u64; TABLE_WORDS]) -> Line
-    ensures { λ r. ⌜ ReadTable (now (text .entry)) (now (table .entry)) (now (table .exit)) r ⌝ }
-{
-    if INPUT_ROOM <= text.len() {
-        return Line::Unreadable;
-    }
-    match numbers_at(text, 0, table) {
-        Line::Numbers(count, next) => {
-            if count == 0 {
-                return Line::Unreadable;
-            }
-            Line::Numbers(count, next)
-        }
-        Line::Unreadable => Line::Unreadable,
-    }
 }

@@ -4,12 +4,12 @@ ghost use Rattle.texts.specs.Page.{Puts, Waits};
 ghost use Rattle.printing.specs.Texts.{caseText, caseRefusedText};
 ghost use Rattle.checked.specs.Opening.{opening};
 ghost use Rattle.printing.specs.Printed.{caseLine, printed, Judges, Answers};
+use super::input::INPUT_ROOM;
 use super::input::One;
 use super::input::POOL_WORDS;
 use super::input::TABLE_WORDS;
 use super::input::one_at;
 use super::input::one_each;
-use super::input::read_table;
 use cases::Written;
 use checked::opened::begin;
 use checked::prepared::PLAN;
@@ -56,9 +56,15 @@ fn answer(
 ) -> usize
     ensures { λ r. ⌜ Puts (printed (now (text .entry))) (now (page .entry)) 0 (now (page .exit)) r ⌝ }
 {
-    let Line::Numbers(table_count, pool_at) = read_table(text, table) else {
+    if INPUT_ROOM <= text.len() {
+        return unreadable(page, 0);
+    }
+    let Line::Numbers(table_count, pool_at) = numbers_at(text, 0, table) else {
         return unreadable(page, 0);
     };
+    if table_count == 0 {
+        return unreadable(page, 0);
+    }
     let Line::Numbers(pool_count, start_at) = numbers_at(text, pool_at, pool) else {
         return unreadable(page, 0);
     };

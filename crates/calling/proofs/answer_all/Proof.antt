@@ -22,21 +22,15 @@ answer-all-spec =
     (λ c κs. search needs)
     (λ c κs. search needs)
     (λ c κs. search needs)
-    (λ c κs. let at-if1 = c .before .before .before in
-    let at-readable = at-if1 .before in
-    let at-without-table = at-readable .before in
+    (λ c κs. let at-if1 = c .before .before .before in let at-readable = at-if1 .before in let at-without-table = at-readable .before in
     answer-not _ (at-readable .readable .ensures) (at-if1 .if1 .taken) (at-without-table .without-table .ensures .1) (c .before .unreadable .ensures))
     (λ c. search needs)
     (λ c. let at-without-table = c .before .before in answer-none (at-without-table .without-table .ensures))
     (λ c κs. let at-if2 = c .before .before .before .before .before in let at-loop = at-if2 .before .before in (at-loop .loop .inv .within, at-if2 .if2 .taken))
-    (λ c. let at-if2 = c .before .before .before .before .before .before in
-    let at-loop = at-if2 .before .before in
+    (λ c. let at-if2 = c .before .before .before .before .before .before in let at-loop = at-if2 .before .before in
     answer-less (at-loop .loop .inv) (at-if2 .if2 .taken) (c .answer-line .ensures))
-    (λ c. let at-if2 = c .before .before .before .before .before .before in
-    let at-loop = at-if2 .before .before in
+    (λ c. let at-if2 = c .before .before .before .before .before .before in let at-loop = at-if2 .before .before in
     answer-more (at-loop .loop .inv) (at-if2 .if2 .taken) (c .answer-line .ensures))
-    (λ c κs. let at-loop = c .before .before .before in
-    let at-if1 = at-loop .before in
-    let at-readable = at-if1 .before in
+    (λ c κs. let at-loop = c .before .before .before in let at-if1 = at-loop .before in let at-readable = at-if1 .before in
     answer-all (at-loop .loop .inv) (at-readable .readable .ensures) (at-if1 .if1 .left) (c .before .if2 .left))
     (λ c. search needs))

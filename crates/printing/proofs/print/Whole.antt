@@ -1,24 +1,25 @@
 -- What a whole input prints, by what was read of it, line after line.
---   no-table, no-pool, no-start, no-numbers    what makes it unreadable
---   table-fits, pool-fits                      the words that are lent on stand in those that were lent
---   whole                                      all its lines are readable
+--   too-long, no-table, empty-table, no-pool, no-start, no-numbers    what makes it unreadable
+--   table-fits, pool-fits    the words that are lent on stand in those that were lent
+--   whole                    all its lines are readable
 -- Assumes nothing.
 use mathlib.Core.Path.{_≡_, refl, sym, ap, _∙_}
 use mathlib.Core.Bool.{Bool, true, false, not, false≢true, true≢false}
-use mathlib.Core.List.{List, _++_}
+use mathlib.Core.List.{List, [], _∷_, _++_}
 use mathlib.Core.Option.{Option, none, some}
-use Prim.Native.Nat.{ℕ, _≤_}
+use Prim.Native.Nat.{ℕ, _≤_, _<_}
 use native.Mathlib.Omega.{arith}
-use lib.ListN.{length, take, drop, length-append}
+use lib.ListN.{length, take, drop}
 use lib.Seq.{take-append-seam}
-use borrow.Author.Tests.{not-true, not-false}
-use Rattle.texts.specs.Line.{Reading, numbers, unreadable, answer, stored, ReadLine}
+use borrow.Author.Tests.{le-leb, lt-leb, not-true, not-false}
+use Rattle.texts.specs.Line.{Reading, numbers, unreadable, lineAt, within, ReadLine}
 use Rattle.texts.specs.Page.{Puts}
 use Rattle.texts.specs.Said.{unreadableText}
 use Rattle.texts.specs.declared.line.Line.{Line}
 use Rattle.texts.specs.declared.line.Line.the-variants.{Numbers, Unreadable}
 use Rattle.texts.proofs.line.Answered.{within-room, ReadNumbers, read-numbers, read-unreadable}
-use Rattle.printing.specs.Input.{unclear, poolWords, tableLine, poolLine, oneAt, numbersFrom, withNumbers, withStart, withPool, inputOf, ReadTable, readable}
+use Rattle.printing.specs.Input.{unclear, mostBytes, tableWords, poolWords, notEmpty, tableLine, poolLine, oneAt, numbersFrom, readable}
+use Rattle.printing.specs.Input.{withNumbers, withStart, withPool, withTable, inputOf}
 use Rattle.printing.specs.Printed.{told, printed, Judges}
 use Rattle.printing.specs.declared.input.One.{One}
 use Rattle.printing.specs.declared.input.One.the-variants.{Number, Not}
@@ -30,40 +31,47 @@ unclear-text text e = rw e
 front-words : (ns old : List ℕ) {last : List ℕ} {c : ℕ} → last ≡ ns ++ drop c old → length ns ≡ c → take c last ≡ ns
 front-words ns old e s = rw (e, ← s) (take-append-seam ns (drop (length ns) old))
 
--- the table's line behind an answer
-record Known (x : Reading) (old last : List ℕ) (count next : ℕ) : Type 0 where
-  ns : List ℕ
-  is : x ≡ numbers ns next
-  size : length ns ≡ count
-  leaves : last ≡ ns ++ drop count old
+-- "this line alone may be empty" is said of the pool's
+notEmpty-none : (ns : List ℕ) (next : ℕ) → length ns ≡ 0 → notEmpty (numbers ns next) ≡ unreadable
+notEmpty-none [] next s = refl
+notEmpty-none (n ∷ ns) next s = absurd (omega arith)
 
-known : (x : Reading) {r : Line} {old last : List ℕ} {count next : ℕ} → r ≡ answer x → last ≡ stored old x → r ≡ Numbers count next → Known x old last count next
-known (numbers ns end) {r} {old} {last} {count} {next} e h f =
-    let s : length ns ≡ count = cc in
-    let t : end ≡ next = cc in
-    record { ns = ns; is = ap (numbers ns) t; size = s; leaves = rw s at h }
-known unreadable e h f = let z : _≡_ {A = ℕ} 0 1 = cc in absurd (omega arith)
+notEmpty-some : (ns : List ℕ) (next : ℕ) → (length ns ≡ 0 → ⊥) → notEmpty (numbers ns next) ≡ numbers ns next
+notEmpty-some [] next s = absurd (s refl)
+notEmpty-some (n ∷ ns) next s = refl
 
-unknown : (x : Reading) {r : Line} → r ≡ answer x → r ≡ Unreadable → x ≡ unreadable
-unknown (numbers ns end) e f = let z : _≡_ {A = ℕ} 0 1 = cc in absurd (omega arith)
-unknown unreadable e f = refl
+pub too-long : (text : List ℕ) → mostBytes < length text → unreadableText ≡ printed text
+unfolding inputOf tableLine
+too-long text l = unclear-text text (rw (lt-leb (length text) mostBytes l))
 
-module _ {text tOld tLast : List ℕ} {a : Line} (k : ReadTable text tOld tLast a) where
+module _ {text : List ℕ} (l : length text ≤ mostBytes) {tOld tLast : List ℕ} {a : Line} (k : ReadLine text 0 tOld tLast a)
+    (wide : length tOld ≡ tableWords) where
+  first-line : (x : Reading) → within tableWords (lineAt text 0) ≡ x → tableLine text ≡ notEmpty x
+  unfolding tableLine
+  first-line x e = rw (le-leb (length text) mostBytes l, e)
+
   pub no-table : a ≡ Unreadable → unreadableText ≡ printed text
   unfolding inputOf
-  no-table e = unclear-text text (rw (unknown (tableLine text) (k .answers) e))
+  no-table e = unclear-text text (ap (withTable text) (first-line unreadable (rw wide at (read-unreadable k e .0))))
 
   module _ {c next : ℕ} (ea : a ≡ Numbers c next) where
-    t : Known (tableLine text) tOld tLast c next
-    t = known (tableLine text) (k .answers) (k .leaves) ea
+    t : ReadNumbers text 0 tOld tLast c next
+    t = read-numbers k ea
 
-    pub table-fits : c ≤ length tLast
-    table-fits = omega (arith, t .size, ap length (t .leaves) ∙ length-append (t .ns) (drop c tOld))
+    some-line : tableLine text ≡ notEmpty (numbers (t .ns) next)
+    some-line = first-line (numbers (t .ns) next) (rw (t .is) (within-room (t .ns) next (omega (arith, t .size, t .room))))
 
-    module _ {pOld pLast : List ℕ} {b : Line} (j : ReadLine text next pOld pLast b) (size : length pOld ≡ poolWords) where
+    pub empty-table : c ≡ 0 → unreadableText ≡ printed text
+    unfolding inputOf
+    empty-table z = unclear-text text (ap (withTable text) (some-line ∙ notEmpty-none (t .ns) next (t .size ∙ z)))
+
+    pub table-fits : c ≤ tableWords
+    table-fits = omega (arith, t .room)
+
+    module _ (some-words : c ≡ 0 → ⊥) {pOld pLast : List ℕ} {b : Line} (j : ReadLine text next pOld pLast b) (size : length pOld ≡ poolWords) where
       after-table : inputOf text ≡ withPool text (t .ns) (poolLine text next)
       unfolding inputOf
-      after-table = rw (t .is)
+      after-table = ap (withTable text) (some-line ∙ notEmpty-some (t .ns) next (λ s. some-words (sym (t .size) ∙ s)))
 
       pub no-pool : b ≡ Unreadable → unreadableText ≡ printed text
       unfolding poolLine

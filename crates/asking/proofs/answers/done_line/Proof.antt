@@ -15,6 +15,5 @@ done-line-spec =
     (λ c. search needs)
     (λ c κs. search needs)
     (λ c κs. search needs)
-    (λ c. let at-put-text = c .before .before in
-    let at-put-number = at-put-text .before .before .before in
+    (λ c. let at-put-text = c .before .before in let at-put-number = at-put-text .before .before .before in
     at-put-number .put-number .ensures then at-put-text .put-text .ensures then c .listed-line .ensures))

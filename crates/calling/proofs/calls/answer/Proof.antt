@@ -22,6 +22,5 @@ answer-spec =
     (λ c. simp length-take (omega arith))
     (λ c. simp length-take (omega arith))
     (λ c κs. search needs)
-    (λ c. let at-word-size = c .before .before .before .before .before .before .before .before in
-    let at-if1 = at-word-size .before in
+    (λ c. let at-word-size = c .before .before .before .before .before .before .before .before in let at-if1 = at-word-size .before in
     told (line-call _ _ _ _ (at-if1 .if1 .left) (at-word-size .word-size .ensures .0)) (c .case-call .ensures)))

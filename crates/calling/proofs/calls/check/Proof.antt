@@ -13,10 +13,8 @@ check-spec =
     (λ c. search needs)
     (λ c κs. search needs)
     (λ c κs. search needs)
-    (λ c. let at-if1 = c .before .before in
-    let at-same = at-if1 .before in
+    (λ c. let at-if1 = c .before .before in let at-same = at-if1 .before in
     told (check-not _ _ _ (at-same .same .ensures) (at-if1 .if1 .taken)) (c .unreadable .ensures))
     (λ c κs. search needs)
-    (λ c. let at-if1 = c .before .before in
-    let at-same = at-if1 .before in
+    (λ c. let at-if1 = c .before .before in let at-same = at-if1 .before in
     told (check-text _ _ _ (at-same .same .ensures) (at-if1 .if1 .left)) (c .answer .ensures)))

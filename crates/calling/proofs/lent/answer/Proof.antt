@@ -15,27 +15,21 @@ answer-spec =
     (λ c. search needs)
     (λ c. search needs)
     (λ c κs. search needs)
-    (λ c. let at-enum-told = c .before .before in
-    let at-numbers-at = at-enum-told .before .before in
+    (λ c. let at-enum-told = c .before .before in let at-numbers-at = at-enum-told .before .before in
     told (buffer-not (at-numbers-at .numbers-at .ensures) (omega arith) _ (at-enum-told .enum-told .given .1)) (c .unreadable .ensures))
     (λ c κs. search needs)
-    (λ c. let at-if1 = c .before .before in
-    let at-count = at-if1 .before .before in
-    let at-numbers-at = at-count .before .before in
+    (λ c. let at-if1 = c .before .before in let at-count = at-if1 .before .before in let at-numbers-at = at-count .before .before in
     told (buffer-few (at-numbers-at .numbers-at .ensures) (omega arith) (at-count .count .given .1) _ (at-if1 .if1 .taken)) (c .unreadable2 .ensures))
     (λ c. search needs)
     (λ c. search needs)
     (λ c κs. search needs)
-    (λ c. let at-if2 = c .before .before in
-    let at-if1 = at-if2 .before .before .before in
-    let at-count = at-if1 .before .before in
+    (λ c. let at-if2 = c .before .before in let at-if1 = at-if2 .before .before .before in let at-count = at-if1 .before .before in
     let at-numbers-at = at-count .before .before in
-    told (buffer-over (at-numbers-at .numbers-at .ensures) (omega arith) (at-count .count .given .1) _ (at-if1 .if1 .left) (at-if2 .if2 .taken)) (c .unreadable3 .ensures))
-    (λ c κs. let at-count = c .before .before .before .before .before .before .before .before .before in
-    let at-numbers-at = at-count .before .before in
+    told (buffer-over (at-numbers-at .numbers-at .ensures) (omega arith) (at-count .count .given .1) _ (at-if1 .if1 .left) (at-if2 .if2 .taken))
+    (c .unreadable3 .ensures))
+    (λ c κs. let at-count = c .before .before .before .before .before .before .before .before .before in let at-numbers-at = at-count .before .before in
     (omega arith, omega (arith, fields-fit (at-numbers-at .numbers-at .ensures) (omega arith) (at-count .count .given .1)), omega arith))
-    (λ c. let at-if2 = c .before .before .before .before .before in
-    let at-if1 = at-if2 .before .before .before in
-    let at-count = at-if1 .before .before in
-    let at-numbers-at = at-count .before .before in
-    told (buffer-text (at-numbers-at .numbers-at .ensures) (omega arith) (at-count .count .given .1) _ (at-if1 .if1 .left) (at-if2 .if2 .left)) (c .lend .ensures)))
+    (λ c. let at-if2 = c .before .before .before .before .before in let at-if1 = at-if2 .before .before .before in
+    let at-count = at-if1 .before .before in let at-numbers-at = at-count .before .before in
+    told (buffer-text (at-numbers-at .numbers-at .ensures) (omega arith) (at-count .count .given .1) _ (at-if1 .if1 .left) (at-if2 .if2 .left))
+    (c .lend .ensures)))

@@ -15,6 +15,5 @@ one-spec =
     (λ c. search needs)
     (λ c κs. search needs)
     (λ c. search needs)
-    (λ c. let at-answer = c .before .before in
-    let at-if1 = at-answer .before .before .before .before in
+    (λ c. let at-answer = c .before .before in let at-if1 = at-answer .before .before .before .before in
     told (one-text _ _ (at-if1 .if1 .left)) (at-answer .answer .ensures .puts)))

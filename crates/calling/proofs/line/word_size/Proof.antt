@@ -22,18 +22,13 @@ word-size-spec =
     μ-loop
     (λ c. sizing-none _)
     (λ c. search needs)
-    (λ c. let at-loop-test = c .before .before in
-    let at-loop = at-loop-test .before in
+    (λ c. let at-loop-test = c .before .before in let at-loop = at-loop-test .before in
     (sizing-ends (at-loop .loop .inv) (at-loop-test .loop-test .taken) (ends-space _ (c .if1 .taken)), at-loop .loop .inv .le))
     (λ c. search needs)
-    (λ c. let at-if1 = c .before .before in
-    let at-loop-test = at-if1 .before .before in
-    let at-loop = at-loop-test .before in
+    (λ c. let at-if1 = c .before .before in let at-loop-test = at-if1 .before .before in let at-loop = at-loop-test .before in
     (sizing-ends (at-loop .loop .inv) (at-loop-test .loop-test .taken) (ends-lf _ (at-if1 .if1 .left) (c .if2 .taken)), at-loop .loop .inv .le))
     (λ c. search needs)
     (λ c. omega arith)
-    (λ c. let at-if1 = c .before .before in
-    let at-loop-test = at-if1 .before .before in
-    let at-loop = at-loop-test .before in
+    (λ c. let at-if1 = c .before .before in let at-loop-test = at-if1 .before .before in let at-loop = at-loop-test .before in
     sizing-more (at-loop .loop .inv) (at-loop-test .loop-test .taken) (ends-not _ (at-if1 .if1 .left) (c .if2 .left)))
     (λ c. (sizing-all (c .before .loop .inv) (c .loop-test .left), c .before .loop .inv .le)))

@@ -19,9 +19,7 @@ answer-spec =
     (λ c κs. search needs)
     (λ c. search needs)
     (λ c κs. search needs)
-    (λ c. let at-enum-told = c .before .before .before in
-    let at-check = at-enum-told .before .before in
+    (λ c. let at-enum-told = c .before .before .before in let at-check = at-enum-told .before .before in
     told (check-text _ _ (check-is _ _ (at-check .check .ensures)) (at-enum-told .enum-told .given .1)) (c .put-text .ensures))
-    (λ c. let at-refusal = c .before .before .before in
-    let at-check = at-refusal .before .before in
+    (λ c. let at-refusal = c .before .before .before in let at-check = at-refusal .before .before in
     told (check-text _ _ (check-is _ _ (at-check .check .ensures)) (at-refusal .refusal .given .1)) (c .refused-line .ensures)))

@@ -18,9 +18,7 @@ answer-spec =
     (λ c κs. search needs)
     (λ c. search needs)
     (λ c κs. search needs)
-    (λ c. let at-found = c .before .before .before in
-    let at-read = at-found .before .before in
+    (λ c. let at-found = c .before .before .before in let at-read = at-found .before .before in
     told (read-text _ _ _ _ (read-is _ _ _ _ (at-read .read .ensures)) (at-found .found .given .1)) (c .number-line .ensures))
-    (λ c. let at-refusal = c .before .before .before in
-    let at-read = at-refusal .before .before in
+    (λ c. let at-refusal = c .before .before .before in let at-read = at-refusal .before .before in
     told (read-text _ _ _ _ (read-is _ _ _ _ (at-read .read .ensures)) (at-refusal .refusal .given .1)) (c .refused-line .ensures)))

@@ -14,19 +14,15 @@ answer-spec =
     (λ c κs. search needs)
     (λ c κs. search needs)
     (λ c. search needs)
-    (λ c κs. let at-items = c .before .before .before in
-    let at-numbers2 = at-items .before .before .before in
-    let at-read-row = at-numbers2 .before in
+    (λ c κs. let at-items = c .before .before .before in let at-numbers2 = at-items .before .before .before in let at-read-row = at-numbers2 .before in
     omega (arith, got-fits (at-read-row .read-row .ensures) (at-items .items .given .1), at-numbers2 .numbers2 .given))
     (λ c. search needs)
     (λ c κs. search needs)
     (λ c. search needs)
-    (λ c. let at-items = c .before .before .before .before in
-    let at-read-row = at-items .before .before .before .before in
+    (λ c. let at-items = c .before .before .before .before in let at-read-row = at-items .before .before .before .before in
     let at-fill = at-read-row .before .before .before .before in
     read-done _ (at-fill .fill .ensures) (at-read-row .read-row .ensures) (at-items .items .given .1) (c .done-line .ensures))
     (λ c. search needs)
-    (λ c. let at-refusal = c .before .before .before .before in
-    let at-read-row = at-refusal .before .before .before .before in
+    (λ c. let at-refusal = c .before .before .before .before in let at-read-row = at-refusal .before .before .before .before in
     let at-fill = at-read-row .before .before .before .before in
     read-refused _ (at-fill .fill .ensures) (at-read-row .read-row .ensures) (at-refusal .refusal .given .1) (c .refused-at-item .ensures)))

@@ -24,24 +24,16 @@ answer-spec =
     (λ c κs. search needs)
     (λ c. search needs)
     (λ c κs. search needs)
-    (λ c. let at-handed = c .before .before .before in
-    let at-read-at = at-handed .before .before in
-    let at-loop = at-read-at .before in
+    (λ c. let at-handed = c .before .before .before in let at-read-at = at-handed .before .before in let at-loop = at-read-at .before in
     nearer (at-loop .loop .inv) (strode-is _ _ _ _ _ (at-read-at .read-at .ensures)) (at-handed .handed .given .1))
-    (λ c. let at-handed = c .before .before .before in
-    let at-read-at = at-handed .before .before in
-    let at-loop = at-read-at .before in
+    (λ c. let at-handed = c .before .before .before in let at-read-at = at-handed .before .before in let at-loop = at-read-at .before in
     ask-more (at-loop .loop .inv) (strode-is _ _ _ _ _ (at-read-at .read-at .ensures)) (at-handed .handed .given .1) (c .item-line .ensures))
     (λ c. search needs)
     (λ c. search needs)
     (λ c κs. search needs)
-    (λ c. let at-enum-told = c .before .before .before in
-    let at-read-at = at-enum-told .before .before in
-    let at-loop = at-read-at .before in
+    (λ c. let at-enum-told = c .before .before .before in let at-read-at = at-enum-told .before .before in let at-loop = at-read-at .before in
     ask-end (at-loop .loop .inv) (strode-is _ _ _ _ _ (at-read-at .read-at .ensures)) (at-enum-told .enum-told .given .1) (c .put-text .ensures))
     (λ c. search needs)
     (λ c κs. search needs)
-    (λ c. let at-handed2 = c .before .before .before in
-    let at-read-at = at-handed2 .before .before in
-    let at-loop = at-read-at .before in
+    (λ c. let at-handed2 = c .before .before .before in let at-read-at = at-handed2 .before .before in let at-loop = at-read-at .before in
     ask-refused (at-loop .loop .inv) (strode-is _ _ _ _ _ (at-read-at .read-at .ensures)) (at-handed2 .handed2 .given .1) (c .refused-line .ensures)))

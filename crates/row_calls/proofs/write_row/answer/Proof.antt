@@ -14,19 +14,15 @@ answer-spec =
     (λ c κs. search needs)
     (λ c κs. search needs)
     (λ c. search needs)
-    (λ c κs. let at-items = c .before .before .before in
-    let at-cells2 = at-items .before .before .before in
-    let at-write-row = at-cells2 .before in
+    (λ c κs. let at-items = c .before .before .before in let at-cells2 = at-items .before .before .before in let at-write-row = at-cells2 .before in
     omega (arith, row-fits (at-write-row .write-row .ensures) (at-items .items .given .1), at-cells2 .cells2 .given))
     (λ c. search needs)
     (λ c κs. search needs)
     (λ c. search needs)
-    (λ c. let at-items = c .before .before .before .before in
-    let at-write-row = at-items .before .before .before .before in
+    (λ c. let at-items = c .before .before .before .before in let at-write-row = at-items .before .before .before .before in
     let at-fill = at-write-row .before .before .before .before in
     wrote-done _ (at-fill .fill .ensures) (at-write-row .write-row .ensures) (at-items .items .given .1) (c .done-line .ensures))
     (λ c. search needs)
-    (λ c. let at-refusal = c .before .before .before .before in
-    let at-write-row = at-refusal .before .before .before .before in
+    (λ c. let at-refusal = c .before .before .before .before in let at-write-row = at-refusal .before .before .before .before in
     let at-fill = at-write-row .before .before .before .before in
     wrote-refused _ (at-fill .fill .ensures) (at-write-row .write-row .ensures) (at-refusal .refusal .given .1) (c .refused-at-item .ensures)))
