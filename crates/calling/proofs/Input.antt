@@ -26,7 +26,8 @@ use Rattle.texts.proofs.page.Putting.{none, told, _then_}
 use Rattle.calling.specs.Same.{same}
 use Rattle.calling.specs.Line.{readable}
 use Rattle.calling.specs.Calls.{Known, nothing, lineText}
-use Rattle.calling.specs.Input.{lineSize, after, lineOf, mostTableWords, mostPoolWords, bothRead, tableAt, isTable, saidAt, nextAt, nextKnown, printedBy, printed}
+use Rattle.calling.specs.Input.{lineSize, after, lineOf, mostTableWords, mostPoolWords, bothRead, tableAt, isTable, saidAt, nextAt, nextKnown}
+use Rattle.calling.specs.Input.{printedBy, printed}
 use Rattle.calling.specs.State.{knownOf, Within, Tables, Turns}
 use Rattle.calling.specs.declared.state.State.{State}
 

@@ -44,10 +44,12 @@ expected (prints-as text print) = bytes print
 abbrev prints : List Print
 prints =
     prints-as "table\n0 1 0 1 0 0 9 5 0 5 1 2 4 0 3 8 4 0\n\ncheck\nwrite 5 9 43\nread 5 1 6 0 0\n" "accepted\n4 cells: 1 6 0 0\nnumber 43\n"
-    ∷ prints-as "table\n0 1 0 1 0 0 9 5 0 5 1 2 4 0 3 8 4 0\n\nwrite-row 5 10 1 0 3\nread-row 5 3 1 0 0 0 0 0 1 1 0 0\n" "3 items, 10 cells: 1 0 0 0 0 0 1 1 0 0\n3 items, 10 cells: 1 0 3\n"
+    ∷ prints-as "table\n0 1 0 1 0 0 9 5 0 5 1 2 4 0 3 8 4 0\n\nwrite-row 5 10 1 0 3\nread-row 5 3 1 0 0 0 0 0 1 1 0 0\n"
+    "3 items, 10 cells: 1 0 0 0 0 0 1 1 0 0\n3 items, 10 cells: 1 0 3\n"
     ∷ prints-as "table\n0 1 0 1 0 0 9 5 0 5 1 2 4 0 3 8 4 0\n\nreader 5 1 0 0 0 0 0 1 1 0 0\nreader 5 0 0 1\n"
     "number 1, 4 cells\nnumber 0, 2 cells\nnumber 3, 4 cells\nend\nnumber 0, 2 cells\nrefused 15 at 0\n"
-    ∷ prints-as "table\n0 2 0\n\nwrite 0 0 1\nwrite 0 1 2\nread 0 2\nread 0\nwrite 1 1 0\n" "refused 14 at 0\nrefused 12 at 0\nrefused 15 at 0\nrefused 15 at 0\nrefused 11 at 0\n"
+    ∷ prints-as "table\n0 2 0\n\nwrite 0 0 1\nwrite 0 1 2\nread 0 2\nread 0\nwrite 1 1 0\n"
+    "refused 14 at 0\nrefused 12 at 0\nrefused 15 at 0\nrefused 15 at 0\nrefused 11 at 0\n"
     ∷ prints-as "table\n0 2 0\n\nwrite-row 0 1 1 1\nread-row 0 1 1 1\nread-row 0 2 1 2\nwrite-row 0 0\nreader 0\n"
     "refused 14 at 0 item 1\nrefused 14 at 0 item 1\nrefused 15 at 0 item 1\n0 items, 0 cells:\nend\n"
     ∷ prints-as "table\n1 0 0 0 0 0\n\ncheck\nread 0 7\nwrite-row 0 2 7\n" "refused 5 at 1\nrefused 5 at 1\nrefused 5 at 1 item 0\n"

@@ -1,4 +1,5 @@
--- What an input asks for. 01: "at most 65,536 bytes of lines ended by LF: table words, pool words (this line alone may be empty), start node, then one number a line"
+-- What an input asks for. 01: "at most 65,536 bytes of lines ended by LF: table words, pool words (this line alone may be empty), start node, then one
+-- number a line"
 --   Input          the table, the pool, the start node and the numbers; or it is unreadable
 --   tableLine, poolLine   the first line, and the second, which stands at a place
 --   oneAt          the number that is alone on the line at a place, and the place after the line

@@ -43,6 +43,9 @@ print-each-spec =
     (λ c κs. search needs)
     (λ c. search needs)
     (λ c κs. search needs)
-    (λ c. omega (arith, number-within (c .before .before .before .before .before .before .before .before .before .before .before .before .before .args .text .now) (c .before .before .before .before .before .before .before .before .before .before .before .loop .at) (sym (c .before .before .before .before .before .before .before .before .before .number-at .ensures) ∙ c .before .before .before .before .before .before .before .count .given .1)))
+    (λ c. let at-count = c .before .before .before .before .before .before .before in let at-number = at-count .before .before in let at-loop = at-number .before .before in omega (
+      arith,
+      number-within (at-loop .before .before .args .text .now) (at-loop .loop .at) (sym (at-number .number-at .ensures) ∙ at-count .count .given .1),
+    ))
     (λ c. tt)
     (λ c. search needs))

@@ -16,7 +16,8 @@ use Rattle.texts.specs.declared.numeral.Numeral.{Numeral}
 use Rattle.texts.specs.declared.numeral.Numeral.the-variants.{Of, Not}
 use Rattle.texts.specs.declared.line.Line.{Line}
 use Rattle.texts.specs.declared.line.Line.the-variants.{Numbers, Unreadable}
-use Rattle.texts.proofs.line.Rest.{restAt, onto, HasSome, rest-some, line-over, line-empty, line-rest, rest-not, rest-over, rest-lf, rest-space, rest-other}
+use Rattle.texts.proofs.line.Rest.{restAt, onto, HasSome, rest-some, line-over, line-empty, line-rest, rest-not, rest-over, rest-lf, rest-space}
+use Rattle.texts.proofs.line.Rest.{rest-other}
 
 -- the count may not pass the room
 abbrev limited : ℕ → Line → Line

@@ -3,7 +3,8 @@
 use borrow.Author.Needs.{needs}
 use Prim.Native.Nat.{_-_}
 use native.Mathlib.Omega.{arith}
-use Rattle.texts.proofs.line.Counting.{Counting, count-none, count-empty, count-start, count-not, count-over, count-lf, count-other, count-space, count-full}
+use Rattle.texts.proofs.line.Counting.{Counting, count-none, count-empty, count-start, count-not, count-over, count-lf, count-other, count-space}
+use Rattle.texts.proofs.line.Counting.{count-full}
 use Rattle.texts.proofs.line.count_at.Statement.{statement}
 use Rattle.texts.proofs.line.count_at.Tie as tie
 
