@@ -43,9 +43,8 @@ print-each-spec =
     (λ c κs. search needs)
     (λ c. search needs)
     (λ c κs. search needs)
-    (λ c. let at-count = c .before .before .before .before .before .before .before in let at-number = at-count .before .before in let at-loop = at-number .before .before in omega (
-      arith,
-      number-within (at-loop .before .before .args .text .now) (at-loop .loop .at) (sym (at-number .number-at .ensures) ∙ at-count .count .given .1),
-    ))
+    (λ c. let u = c .before .before .before .before .before .before .before in let v = u .before .before in let l = v .before .before in
+    let w = number-within (l .before .before .args .text .now) (l .loop .at) (sym (v .number-at .ensures) ∙ u .count .given .1) in
+    omega (arith, w))
     (λ c. tt)
     (λ c. search needs))
