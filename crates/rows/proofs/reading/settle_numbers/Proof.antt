@@ -11,11 +11,11 @@ pub settle-numbers-spec : {M : Type 1} → statement M
 settle-numbers-spec =
     tie.close
     (tie.spec
-    (λ c κs. (c .before .if1 .taken, c .before .before .before .before .before .before .before .pre .1 .1 .fits))
-    (λ c. over-long _ _ (c .before .before .copy .ensures))
-    (λ c. kept-copied (c .before .before .before .before .before .before .before .before .before .before .pre .1 .1)
-    (c .before .before .before .before .if1 .taken) _ (c .before .before .copy .ensures))
-    (λ c κs. c .before .before .before .before .before .before .before .pre .0)
-    (λ c. c .before .before .gather-row .ensures .long)
-    (λ c. c .before .before .gather-row .ensures .holds _ _ (c .before .before .gather-row .ensures .is ∙ ap (answered _)
-    (c .before .before .before .before .before .before .before .before .before .before .pre .1 .0 .is))))
+    (λ c κs. let at-pre = c .before .before .before .before .before .before .before in (c .before .if1 .taken, at-pre .pre .1 .1 .fits))
+    (λ c. let at-copy = c .before .before in over-long _ _ (at-copy .copy .ensures))
+    (λ c. let at-copy = c .before .before in let at-if1 = at-copy .before .before in let at-pre = at-if1 .before .before .before .before .before .before in
+    kept-copied (at-pre .pre .1 .1) (at-if1 .if1 .taken) _ (at-copy .copy .ensures))
+    (λ c κs. let at-pre = c .before .before .before .before .before .before .before in at-pre .pre .0)
+    (λ c. let at-gather-row = c .before .before in at-gather-row .gather-row .ensures .long)
+    (λ c. let at-gather-row = c .before .before in let at-pre = at-gather-row .before .before .before .before .before .before .before .before in
+    at-gather-row .gather-row .ensures .holds _ _ (at-gather-row .gather-row .ensures .is ∙ ap (answered _) (at-pre .pre .1 .0 .is))))

@@ -25,36 +25,32 @@ lay-row-spec =
     (λ c. laying-none _ _ _ _)
     (λ c. search needs)
     (λ c. search needs)
-    (λ c. omega (
-      arith,
-      laying-within _ _ (c .before .before .loop .inv),
-      laying-long _ _ (c .before .before .loop .inv),
-      c .before .before .before .before .before .before .before .good,
-    ))
-    (λ c. laying-within _ _ (c .before .before .loop .inv))
-    (λ c. laying-within _ _ (c .before .before .loop .inv))
-    (λ c. omega (arith, laying-within _ _ (c .before .before .loop .inv)))
-    (λ c κs. c .before .before .before .before .before .before .before .before .pre)
+    (λ c. let at-loop = c .before .before in let at-good = at-loop .before .before .before .before .before in
+    omega (arith, laying-within _ _ (at-loop .loop .inv), laying-long _ _ (at-loop .loop .inv), at-good .good))
+    (λ c. let at-loop = c .before .before in laying-within _ _ (at-loop .loop .inv))
+    (λ c. let at-loop = c .before .before in laying-within _ _ (at-loop .loop .inv))
+    (λ c. let at-loop = c .before .before in omega (arith, laying-within _ _ (at-loop .loop .inv)))
+    (λ c κs. let at-pre = c .before .before .before .before .before .before .before .before in at-pre .pre)
     (λ c. search needs)
-    (λ c. omega (
+    (λ c. let at-fits2 = c .before .before .before .before .before in let at-loop-test = at-fits2 .before .before .before in
+    let at-loop = at-loop-test .before in let at-good = at-loop .before .before .before .before .before in
+    omega (
       arith,
-      laying-fits _ _ (c .before .before .before .before .before .before .before .before .before .loop .inv)
-          (c .before .before .before .before .before .before .before .before .loop-test .taken) refl (c .before .before .before .before .before .fits2 .ensures)
-          (c .before .k .given .1),
-      laying-long _ _ (c .before .before .before .before .before .before .before .before .before .loop .inv),
-      c .before .before .before .before .before .before .before .before .before .before .before .before .before .before .good,
+      laying-fits _ _ (at-loop .loop .inv) (at-loop-test .loop-test .taken) refl (at-fits2 .fits2 .ensures) (c .before .k .given .1),
+      laying-long _ _ (at-loop .loop .inv),
+      at-good .good,
     ))
     (λ c. search needs)
     (λ c. omega arith)
-    (λ c. laying-more _ _ (c .before .before .before .before .before .before .before .before .before .loop .inv)
-    (c .before .before .before .before .before .before .before .before .loop-test .taken) refl (c .before .before .before .before .before .fits2 .ensures)
+    (λ c. let at-fits2 = c .before .before .before .before .before in let at-loop-test = at-fits2 .before .before .before in
+    let at-loop = at-loop-test .before in laying-more _ _ (at-loop .loop .inv) (at-loop-test .loop-test .taken) refl (at-fits2 .fits2 .ensures)
     (c .before .k .given .1))
     (λ c. search needs)
-    (λ c. laying-stops _ _ (c .before .before .before .before .before .before .before .before .before .loop .inv)
-    (c .before .before .before .before .before .before .before .before .loop-test .taken) refl (c .before .before .before .before .before .fits2 .ensures)
+    (λ c. let at-fits2 = c .before .before .before .before .before in let at-loop-test = at-fits2 .before .before .before in
+    let at-loop = at-loop-test .before in laying-stops _ _ (at-loop .loop .inv) (at-loop-test .loop-test .taken) refl (at-fits2 .fits2 .ensures)
     (c .before .r .given .1) .long)
-    (λ c. laying-stops _ _ (c .before .before .before .before .before .before .before .before .before .loop .inv)
-    (c .before .before .before .before .before .before .before .before .loop-test .taken) refl (c .before .before .before .before .before .fits2 .ensures)
+    (λ c. let at-fits2 = c .before .before .before .before .before in let at-loop-test = at-fits2 .before .before .before in
+    let at-loop = at-loop-test .before in laying-stops _ _ (at-loop .loop .inv) (at-loop-test .loop-test .taken) refl (at-fits2 .fits2 .ensures)
     (c .before .r .given .1))
     (λ c. laying-long _ _ (c .before .loop .inv))
     (λ c. laying-done _ _ (c .before .loop .inv) (c .loop-test .left)))
