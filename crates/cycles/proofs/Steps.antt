@@ -29,7 +29,7 @@ use Rattle.grammar.specs.declared.named.Named.{Named}
 use Rattle.lists.proofs.Runs.{run-long, run-at}
 use Rattle.grammar.proofs.Stepping.{under-mem}
 use Rattle.grammar.proofs.Checked.{step-lower}
-use Rattle.planning.proofs.KindSteps.{steps-by}
+use Rattle.grammar.proofs.KindSteps.{steps-by}
 
 -- ---- steps
 module _ {t p : List ℕ} {z : ℕ → Size} (c : Checked t p z) (n m : ℕ) where

@@ -11,7 +11,7 @@ ghost use Rattle.grammar.specs.Steps.{Unguarded};
 ghost use Rattle.grammar.specs.Plan.{sizeIn, Ready};
 ghost use Rattle.cycles.specs.Safe.{isMarked, SafeMarks, SafePass};
 ghost use Rattle.grammar.specs.Shown.{stepsIn};
-use planning::steps::steps_of;
+use grammar::kinds::steps_of;
 
 // More than a table has nodes: no path that opens each of them once is as long.
 const DEEPEST: usize = 257;

@@ -16,8 +16,8 @@ ghost use Rattle.grammar.specs.Steps.{Leads};
 ghost use Rattle.grammar.specs.Plan.{sizeIn, Ready};
 ghost use Rattle.cycles.specs.Asked.{OnCycle, Marks};
 use grammar::kinds::AGAIN;
-use planning::steps::skips;
-use planning::steps::steps_of;
+use grammar::kinds::skips;
+use grammar::kinds::steps_of;
 
 // Above every node's number: no such node.
 pub const NONE: u64 = 256;

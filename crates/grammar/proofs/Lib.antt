@@ -18,3 +18,5 @@ pub mod Known
 pub mod Opened
 pub mod Stepping
 pub mod Values
+pub mod KindWords
+pub mod KindSteps

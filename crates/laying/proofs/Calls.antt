@@ -1,6 +1,7 @@
 -- What a visit's calls on its parts ask: the depth left falls, and a part may be visited. Twice the depth left is the
 -- measure of a walk, and one more that of `tagged` and `both` beside it.
---   tally-.., lay-..    of the two walks that write
+--   to-tagged, to-both  of either walk that writes
+--   tally-part; lay-part, lay-shift   of each on a part itself
 --   tally-by, tally-any, tally-up, laid-by   what a visit hands back is what its shape does
 -- Assumes nothing.
 use mathlib.Core.Path.{_≡_, sym, ap, subst, _∙_}
@@ -35,14 +36,14 @@ module _ {plan p : List ℕ} {n left t room : ℕ} (e : 2 * left ≡ t) (f : lef
       → (2 * (left - 1) < t) × (Visits plan p q m × ((m + (left - 1) ≤ 2 ^ 62 + 200) × (left - 1 ≤ 200) × (room ≤ most)))
   tally-part k = (omega arith, (k .visits, (omega (arith, k .near, h .0), omega (arith, h .1), h .2)))
 
-  pub tally-tagged : {q m : ℕ} → Next plan p n q m
+  pub to-tagged : {q m : ℕ} → Next plan p n q m
       → (2 * (left - 1) + 1 < t) × (Visits plan p q m × ((m + (left - 1) ≤ 2 ^ 62 + 200) × (left - 1 ≤ 200) × (room ≤ most)))
-  tally-tagged k = (omega arith, (k .visits, (omega (arith, k .near, h .0), omega (arith, h .1), h .2)))
+  to-tagged k = (omega arith, (k .visits, (omega (arith, k .near, h .0), omega (arith, h .1), h .2)))
 
-  pub tally-both : {a x b y : ℕ} → Next plan p n a x → Next plan p n b y
+  pub to-both : {a x b y : ℕ} → Next plan p n a x → Next plan p n b y
       → (2 * (left - 1) + 1 < t)
       × ((Visits plan p a x × Visits plan p b y) × ((x + (left - 1) ≤ 2 ^ 62 + 200) × (y + (left - 1) ≤ 2 ^ 62 + 200) × (left - 1 ≤ 200) × (room ≤ most)))
-  tally-both k o = (omega arith, ((k .visits, o .visits), (omega (arith, k .near, h .0), omega (arith, o .near, h .0), omega (arith, h .1), h .2)))
+  to-both k o = (omega arith, ((k .visits, o .visits), (omega (arith, k .near, h .0), omega (arith, o .near, h .0), omega (arith, h .1), h .2)))
 
 module _ {plan p : List ℕ} {n left t : ℕ} (up : ℕ) {long : ℕ} (e : 2 * left ≡ t) (f : left ≡ 0 → ⊥)
     (h : (n + left ≤ 2 ^ 62 + 200) × (up + left * 2 ^ 32 ≤ 200 * 2 ^ 32) × (left ≤ 200) × (long ≤ most)) where
@@ -58,12 +59,3 @@ module _ {plan p : List ℕ} {n left t : ℕ} (up : ℕ) {long : ℕ} (e : 2 * l
       × ((Visits plan p q m × Raised plan q (up + b))
       × ((m + (left - 1) ≤ 2 ^ 62 + 200) × (up + b + (left - 1) * 2 ^ 32 ≤ 200 * 2 ^ 32) × (left - 1 ≤ 200) × (long ≤ most)))
   lay-shift k s l = (omega arith, ((k .visits, s), (omega (arith, k .near, h .0), omega (arith, h .1), omega (arith, h .2), h .3)))
-
-  pub lay-tagged : {q m : ℕ} → Next plan p n q m
-      → (2 * (left - 1) + 1 < t) × (Visits plan p q m × ((m + (left - 1) ≤ 2 ^ 62 + 200) × (left - 1 ≤ 200) × (long ≤ most)))
-  lay-tagged k = tally-tagged e f (h .0, h .2, h .3) k
-
-  pub lay-both : {a x b y : ℕ} → Next plan p n a x → Next plan p n b y
-      → (2 * (left - 1) + 1 < t)
-      × ((Visits plan p a x × Visits plan p b y) × ((x + (left - 1) ≤ 2 ^ 62 + 200) × (y + (left - 1) ≤ 2 ^ 62 + 200) × (left - 1 ≤ 200) × (long ≤ most)))
-  lay-both k o = tally-both e f (h .0, h .2, h .3) k o

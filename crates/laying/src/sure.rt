@@ -38,7 +38,8 @@ fn part(widths: &[usize; NODES], a: usize) -> usize
 }
 
 // A width of node k, from those of its parts. A part that is not filled yet is WIDE, and so is what is
-// made of it. A dep has seconds in the pool, and an again leads back to its fix: not known.
+// made of it. Of a kind without a line it is not known: a dep has seconds in the pool, an again leads back
+// to its fix.
 fn width_of(plan: &[u64], k: usize, widths: &[usize; NODES]) -> usize
     requires { ⌜ 4 * k + 3 < length (now plan) ⌝ }
     requires { ⌜ Widths (now plan) (now widths) k ⌝ }
@@ -54,10 +55,8 @@ fn width_of(plan: &[u64], k: usize, widths: &[usize; NODES]) -> usize
         kinds::SHIFT => part(widths, a),
         kinds::OR => capped(1 + larger(part(widths, a), part(widths, b))),
         kinds::CONS => capped(part(widths, a) + part(widths, b)),
-        kinds::DEP => WIDE,
         kinds::EXCEPT => part(widths, a),
         kinds::FIX => part(widths, a),
-        kinds::AGAIN => WIDE,
         _ => WIDE,
     }
 }

@@ -1,5 +1,3 @@
 -- What the proofs of more than one function, and of higher crates, cite.
-pub mod KindWords
 pub mod Plans
 pub mod Scan
-pub mod KindSteps

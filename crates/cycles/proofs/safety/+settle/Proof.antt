@@ -13,7 +13,7 @@ use Rattle.cycles.proofs.safety.settle.Reads as settle
 use Rattle.cycles.proofs.safety.settle.Kinds as settle-kinds
 use Rattle.cycles.proofs.safety.+settle.Lts-settle as lts
 use Rattle.cycles.proofs.safety.steps_safe.Reads as steps-safe
-use Rattle.planning.proofs.steps.steps_of.Reads as steps-of
+use Rattle.grammar.proofs.kinds.steps_of.Reads as steps-of
 use Rattle.cycles.proofs.safety.+settle.{statement}
 use Rattle.cycles.proofs.safety.+settle.Tie.{close}
 

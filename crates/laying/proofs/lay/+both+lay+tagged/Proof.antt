@@ -16,7 +16,7 @@ use Rattle.grammar.proofs.laws.Pool.{pool-in, pool-at}
 use Rattle.grammar.proofs.laws.Shift.{shift-small, shift-bare}
 use Rattle.walk.proofs.Nodes.{in-plan, known, items-by, below-by, checked-by, parts-by, part-at, two-in, two-some, raised-none, raised-bare, raised-zero}
 use Rattle.walk.proofs.Choosing.{choosing, dep-items, dep-low}
-use Rattle.laying.proofs.Calls.{laid-by, lay-part, lay-shift, lay-tagged, lay-both}
+use Rattle.laying.proofs.Calls.{laid-by, lay-part, lay-shift, to-tagged, to-both}
 use Rattle.laying.proofs.lay.both.Reads as both
 use Rattle.laying.proofs.lay.both.Kinds as both-kinds
 use Rattle.laying.proofs.lay.+both+lay+tagged.Lts-both as both-lts
@@ -167,20 +167,20 @@ unfolding rules
     (parts-by v (c .match .keys5)))
     (λ c. let at-if1 = c .before .before .before .before .before .before in omega (arith, at-if1 .if1 .left))
     (λ c κs. let at-match = c .before .before in let at-if1 = at-match .before .before .before .before .before in let at-pre = at-if1 .before .before in let
-    v = at-pre .pre .1 .0 .0 in lay-tagged _ (at-pre .pre .0) (at-if1 .if1 .left) (at-pre .pre .1 .1)
+    v = at-pre .pre .1 .0 .0 in let near = at-pre .pre .1 .1 in to-tagged (at-pre .pre .0) (at-if1 .if1 .left) (near .0, near .2, near .3)
     (next-by v (items-by v (at-match .match .keys5) (c .before .step2 .ensures)) .0))
     (λ c κs. let at-pre = c .before .before .before .before .before .before .before in let v = visited (at-pre .pre .1 .0 .0) in let l = parts-by v
     (c .match .keys6) in (two-in v l, two-some v l))
     (λ c. let at-if1 = c .before .before .before .before .before .before in omega (arith, at-if1 .if1 .left))
     (λ c κs. let at-match = c .before .before in let at-if1 = at-match .before .before .before .before .before in let at-pre = at-if1 .before .before in let
     v = at-pre .pre .1 .0 .0 in let n = next-by v (items-by v (at-match .match .keys6) (c .before .step3 .ensures)) in
-    lay-both _ (at-pre .pre .0) (at-if1 .if1 .left) (at-pre .pre .1 .1) (n .0) (n .1 .0))
+    let near = at-pre .pre .1 .1 in to-both (at-pre .pre .0) (at-if1 .if1 .left) (near .0, near .2, near .3) (n .0) (n .1 .0))
     (λ c κs. let at-pre = c .before .before .before .before .before .before .before .before in let v = at-pre .pre .1 .0 .0 in
     ((choosing (visited v) (c .before .match .keys7) .words, v .walks .slight), dep-low v (c .before .match .keys7)))
     (λ c. let at-if1 = c .before .before .before .before .before .before .before in omega (arith, at-if1 .if1 .left))
     (λ c κs. let at-match = c .before .before .before in let at-if1 = at-match .before .before .before .before .before in let at-pre = at-if1 .before .before
     in let v = at-pre .pre .1 .0 .0 in let n = next-by v (dep-items v (at-match .match .keys7) (c .before .step4 .ensures endless)) in
-    lay-both _ (at-pre .pre .0) (at-if1 .if1 .left) (at-pre .pre .1 .1) (n .0) (n .1 .0))
+    let near = at-pre .pre .1 .1 in to-both (at-pre .pre .0) (at-if1 .if1 .left) (near .0, near .2, near .3) (n .0) (n .1 .0))
     (λ c κs. let at-pre = c .before .before .before .before .before .before .before in omega (arith, at-pre .pre .1 .1 .0))
     (λ c. let at-if1 = c .before .before .before .before .before .before in omega (arith, at-if1 .if1 .left))
     (λ c κs. let at-match = c .before .before in let at-if1 = at-match .before .before .before .before .before in let at-pre = at-if1 .before .before in let

@@ -62,10 +62,8 @@ width-of-spec =
     (λ c. let at-part5 = c .before in let at-part4 = at-part5 .before in let at-match = at-part4 .before in
     let at-pre = at-match .before .before .before .before .before in width-two (at-pre .pre .1) (at-part4 .part4 .ensures)
     (at-part5 .part5 .ensures) (λ p n v. (_, items-by v (at-match .match .keys6) refl)) (c .capped2 .ensures))
-    (λ c. width-none refl)
     (λ c. width-part (c .before .before .before .before .before .before .pre .1) (c .part6 .ensures)
-    (λ p n v. (_, _, items-by v (c .before .match .keys8) refl)))
+    (λ p n v. (_, _, items-by v (c .before .match .keys7) refl)))
     (λ c. width-part (c .before .before .before .before .before .before .pre .1) (c .part7 .ensures)
-    (λ p n v. (_, _, items-by v (c .before .match .keys9) refl)))
-    (λ c. width-none refl)
+    (λ p n v. (_, _, items-by v (c .before .match .keys8) refl)))
     (λ c. width-none refl))

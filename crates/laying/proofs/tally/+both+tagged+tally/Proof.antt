@@ -12,7 +12,7 @@ use Rattle.numbers.specs.Size.{endless}
 use Rattle.grammar.proofs.laws.{rules}
 use Rattle.walk.proofs.Nodes.{in-plan, known, items-by, parts-by, part-at, two-in, two-some}
 use Rattle.walk.proofs.Choosing.{choosing, dep-items, dep-low}
-use Rattle.laying.proofs.Calls.{tally-by, tally-any, tally-up, tally-part, tally-tagged, tally-both}
+use Rattle.laying.proofs.Calls.{tally-by, tally-any, tally-up, tally-part, to-tagged, to-both}
 use Rattle.laying.proofs.tally.both.Reads as both
 use Rattle.laying.proofs.tally.both.Kinds as both-kinds
 use Rattle.laying.proofs.tally.+both+tagged+tally.Lts-both as both-lts
@@ -113,7 +113,7 @@ unfolding rules
     (at-pre .pre .1 .1) (next-by (at-pre .pre .1 .0) (items-by (at-pre .pre .1 .0) (c .match .keys4) refl) .0))
     (λ c κs. let at-pre = c .before .before .before .before .before .before in let v = visited (at-pre .pre .1 .0) in two-in v (parts-by v (c .match .keys5)))
     (λ c. let at-if1 = c .before .before .before .before .before .before in omega (arith, at-if1 .if1 .left))
-    (λ c κs. let at-if1 = c .before .before .before .before .before .before in let at-pre = at-if1 .before in tally-tagged (at-pre .pre .0)
+    (λ c κs. let at-if1 = c .before .before .before .before .before .before in let at-pre = at-if1 .before in to-tagged (at-pre .pre .0)
     (at-if1 .if1 .left) (at-pre .pre .1 .1)
     (next-by (at-pre .pre .1 .0) (items-by (at-pre .pre .1 .0) (c .before .match .keys5) (c .step .ensures)) .0))
     (λ c κs. let at-pre = c .before .before .before .before .before .before in let v = visited (at-pre .pre .1 .0) in let l = parts-by v (c .match .keys6)
@@ -121,7 +121,7 @@ unfolding rules
     (λ c. let at-if1 = c .before .before .before .before .before .before in omega (arith, at-if1 .if1 .left))
     (λ c κs. let at-if1 = c .before .before .before .before .before .before in let at-pre = at-if1 .before in let n = next-by (at-pre .pre .1 .0)
     (items-by (at-pre .pre .1 .0) (c .before .match .keys6) (c .step2 .ensures)) in
-    tally-both (at-pre .pre .0) (at-if1 .if1 .left) (at-pre .pre .1 .1) (n .0) (n .1 .0))
+    to-both (at-pre .pre .0) (at-if1 .if1 .left) (at-pre .pre .1 .1) (n .0) (n .1 .0))
     (λ c κs. let at-pre = c .before .before .before .before .before .before .before in (
       (
         choosing (visited (at-pre .pre .1 .0))
@@ -133,7 +133,7 @@ unfolding rules
     (λ c. let at-if1 = c .before .before .before .before .before .before .before in omega (arith, at-if1 .if1 .left))
     (λ c κs. let at-match = c .before .before in let at-if1 = at-match .before .before .before .before .before in let at-pre = at-if1 .before in
     let n = next-by (at-pre .pre .1 .0) (dep-items (at-pre .pre .1 .0) (at-match .match .keys7) (c .step3 .ensures endless)) in
-    tally-both (at-pre .pre .0) (at-if1 .if1 .left) (at-pre .pre .1 .1) (n .0) (n .1 .0))
+    to-both (at-pre .pre .0) (at-if1 .if1 .left) (at-pre .pre .1 .1) (n .0) (n .1 .0))
     (λ c κs. let at-pre = c .before .before .before .before .before .before in omega (arith, at-pre .pre .1 .1 .0))
     (λ c. let at-if1 = c .before .before .before .before .before .before in omega (arith, at-if1 .if1 .left))
     (λ c κs. let at-if1 = c .before .before .before .before .before .before in let at-pre = at-if1 .before in tally-part (at-pre .pre .0) (at-if1 .if1 .left)

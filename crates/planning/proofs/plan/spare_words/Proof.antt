@@ -3,7 +3,7 @@
 use borrow.Author.Needs.{needs}
 use mathlib.Core.Path.{refl}
 use mathlib.Core.Logic.{⊎-elim}
-use Rattle.planning.proofs.KindWords.{or-yes, or-no, spare-none, spare-first, spare-second}
+use Rattle.grammar.proofs.KindWords.{or-yes, or-no, spare-none, spare-first, spare-second}
 use Rattle.planning.proofs.plan.spare_words.Statement.{statement}
 use Rattle.planning.proofs.plan.spare_words.Tie as tie
 

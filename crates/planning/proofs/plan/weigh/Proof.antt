@@ -2,7 +2,7 @@
 -- Assumes nothing.
 use borrow.Author.Needs.{needs}
 use mathlib.Core.Path.{sym, _∙_}
-use Rattle.planning.proofs.KindWords.{row-goes-on, row-spare}
+use Rattle.grammar.proofs.KindWords.{row-goes-on, row-spare}
 use Rattle.planning.proofs.plan.weigh.Statement.{statement}
 use Rattle.planning.proofs.plan.weigh.Tie as tie
 

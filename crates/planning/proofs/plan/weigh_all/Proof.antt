@@ -1,7 +1,6 @@
--- `planning::plan::weigh_all` goes through the nodes, rising. Its table of used words has 01's rule by one computed equation, the `refl` below.
+-- `planning::plan::weigh_all` goes through the nodes, rising.
 -- Assumes nothing.
 use borrow.Author.Needs.{needs}
-use mathlib.Core.Path.{refl}
 use Prim.Native.Nat.{_-_}
 use native.Mathlib.Omega.{arith}
 use Rattle.planning.proofs.Scan.{Weighing, weighing-none, weighing-more, weighing-fault, weighing-end}
@@ -20,8 +19,9 @@ weigh-all-spec =
     (tie.spec
     Inv-loop
     μ-loop
+    (λ c κs. search needs)
     (λ c. search weighing-none)
-    (λ c κs. (refl, omega arith))
+    (λ c κs. (c .before .before .before .before .used-words .ensures, omega arith))
     (λ c. search needs)
     (λ c. search needs)
     (λ c. search weighing-fault)

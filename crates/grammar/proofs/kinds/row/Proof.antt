@@ -1,10 +1,10 @@
--- `planning::plan::row` asks the kind of a node.
+-- `grammar::kinds::row` asks the kind of a node.
 -- Assumes nothing.
 use borrow.Author.Needs.{needs}
 use Rattle.grammar.specs.Plan.{sizeIn}
-use Rattle.planning.proofs.KindWords.{by-word, not-known}
-use Rattle.planning.proofs.plan.row.Statement.{statement}
-use Rattle.planning.proofs.plan.row.Tie as tie
+use Rattle.grammar.proofs.KindWords.{by-word, not-known}
+use Rattle.grammar.proofs.kinds.row.Statement.{statement}
+use Rattle.grammar.proofs.kinds.row.Tie as tie
 
 pub row-spec : {M : Type 1} → statement M
 row-spec =

@@ -1,11 +1,11 @@
--- `planning::steps::steps_of` names the nodes that a node steps to.
+-- `grammar::kinds::steps_of` names the nodes that a node steps to.
 -- Assumes nothing.
 use borrow.Author.Needs.{needs}
 use native.Mathlib.Omega.{arith}
 use Rattle.grammar.proofs.laws.{rules}
-use Rattle.planning.proofs.KindSteps.{names-as, steps-by, unknown-steps, dep-first, dep-count, dep-run, dep-steps}
-use Rattle.planning.proofs.steps.steps_of.Statement.{statement}
-use Rattle.planning.proofs.steps.steps_of.Tie as tie
+use Rattle.grammar.proofs.KindSteps.{names-as, steps-by, unknown-steps, dep-first, dep-count, dep-run, dep-steps}
+use Rattle.grammar.proofs.kinds.steps_of.Statement.{statement}
+use Rattle.grammar.proofs.kinds.steps_of.Tie as tie
 
 pub steps-of-spec : {M : Type 1} → statement M
 unfolding rules
