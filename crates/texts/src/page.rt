@@ -64,13 +64,16 @@ pub fn put_line(page: &mut [u8; PAGE_BYTES], used: usize, numbers: &[u64]) -> us
 }
 
 // Writes out what waits. A write that fails is not tried again: what is put later goes on to the page.
-pub fn flush(page: &[u8; PAGE_BYTES], used: usize) {
+pub fn flush(page: &[u8; PAGE_BYTES], used: usize) -> usize
+    ensures { λ r. ⌜ r ≡ 0 ⌝ }
+{
     let bytes: &[u8] = page;
     if bytes.len() <= used {
         io::write_all(STDOUT_FILENO, bytes);
-        return;
+        return 0;
     }
     io::write_all(STDOUT_FILENO, &bytes[..used]);
+    0
 }
 
 // Where the next byte goes: to the front again once a full page is written out.
@@ -80,8 +83,7 @@ fn place(page: &[u8; PAGE_BYTES], used: usize) -> usize
     if used < PAGE_BYTES {
         return used;
     }
-    flush(page, used);
-    0
+    flush(page, used)
 }
 
 // Writes a number's digits at the end of the scratch, the last one first, and answers where they begin.
