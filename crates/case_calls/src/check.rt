@@ -11,7 +11,7 @@ pub fn answer(table: &[u64], pool: &[u64], page: &mut [u8; PAGE_BYTES], used: us
     ensures { λ r. ⌜ Puts (checkText (verdict (now (table .entry)) (now (pool .entry)))) (now (page .entry)) used (now (page .exit)) r ⌝ }
 {
     match cases::check(table, pool) {
-        Verdict::Accepted => put_text(page, used, b"accepted\n"),
-        Verdict::Refused(refusal, node) => refused_line(page, used, refusal, node),
+        Verdict::Accepted => put_text(b"accepted\n", page, used),
+        Verdict::Refused(refusal, node) => refused_line(refusal, node, page, used),
     }
 }

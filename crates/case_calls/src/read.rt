@@ -19,7 +19,7 @@ pub fn answer(
         ⌝ }
 {
     match cases::read(table, pool, start, cells) {
-        Found::Number(found) => number_line(page, used, found),
-        Found::Refused(refusal, node) => refused_line(page, used, refusal, node),
+        Found::Number(found) => number_line(found, page, used),
+        Found::Refused(refusal, node) => refused_line(refusal, node, page, used),
     }
 }

@@ -21,10 +21,10 @@ pub fn answer(
 {
     fill(cells);
     match cases::write(table, pool, start, number, cells) {
-        Written::Done(count) => listed_line(page, used, count, cells, count),
+        Written::Done(count) => listed_line(count, cells, count, page, used),
         Written::Refused(refusal, node) => {
-            let said = refused(page, used, refusal, node);
-            end_line(page, said, cells, 0)
+            let said = refused(refusal, node, page, used);
+            end_line(cells, 0, page, said)
         }
     }
 }

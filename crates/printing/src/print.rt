@@ -92,7 +92,7 @@ fn judge(
 {
     match start(table, pool, first) {
         Verdict::Accepted => put_cases(table, pool, first, text, from, page),
-        Verdict::Refused(r, k) => refused_line(page, 0, r, k),
+        Verdict::Refused(r, k) => refused_line(r, k, page, 0),
     }
 }
 
@@ -141,26 +141,26 @@ fn put_answer(
 {
     let mut cells = [0u64; ROOM];
     match cases::write(table, pool, first, n, &mut cells) {
-        Written::Done(count) => put_case(page, used, n, &cells[..count]),
-        Written::Refused(r, _) => put_case_refused(page, used, n, r),
+        Written::Done(count) => put_case(n, &cells[..count], page, used),
+        Written::Refused(r, _) => put_case_refused(n, r, page, used),
     }
 }
 
-fn put_case(page: &mut [u8; PAGE_BYTES], used: usize, n: u64, cells: &[u64]) -> usize
+fn put_case(n: u64, cells: &[u64], page: &mut [u8; PAGE_BYTES], used: usize) -> usize
     ensures { λ r. ⌜ Puts (caseText n (now (cells .entry))) (now (page .entry)) used (now (page .exit)) r ⌝ }
 {
-    let named = put_text(page, used, b"case ");
-    let numbered = put_number(page, named, n);
-    let parted = put_text(page, numbered, b": ");
-    put_line(page, parted, cells)
+    let named = put_text(b"case ", page, used);
+    let numbered = put_number(n, page, named);
+    let parted = put_text(b": ", page, numbered);
+    put_line(cells, page, parted)
 }
 
-fn put_case_refused(page: &mut [u8; PAGE_BYTES], used: usize, n: u64, refusal: Refusal) -> usize
+fn put_case_refused(n: u64, refusal: Refusal, page: &mut [u8; PAGE_BYTES], used: usize) -> usize
     ensures { λ r. ⌜ Puts (caseRefusedText n refusal) (now (page .entry)) used (now (page .exit)) r ⌝ }
 {
-    let named = put_text(page, used, b"case ");
-    let numbered = put_number(page, named, n);
-    let said = put_text(page, numbered, b" refused ");
-    let placed = put_number(page, said, number_of(refusal));
-    put_text(page, placed, b"\n")
+    let named = put_text(b"case ", page, used);
+    let numbered = put_number(n, page, named);
+    let said = put_text(b" refused ", page, numbered);
+    let placed = put_number(number_of(refusal), page, said);
+    put_text(b"\n", page, placed)
 }

@@ -20,9 +20,9 @@ pub fn answer(
 {
     fill(numbers);
     match rows::read_row(table, pool, start, cells, numbers) {
-        Row::Done(items, count) => done_line(page, used, items, count, numbers, items),
+        Row::Done(items, count) => done_line(items, count, numbers, items, page, used),
         Row::Refused(refusal, node, item) => {
-            refused_at_item(page, used, refusal, node, item, numbers)
+            refused_at_item(refusal, node, item, numbers, page, used)
         }
     }
 }

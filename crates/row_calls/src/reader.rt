@@ -25,14 +25,14 @@ pub fn answer(
         let handed = stride.answer;
         match handed {
             Next::Item(found, cells) => {
-                waiting = item_line(page, waiting, found, cells);
+                waiting = item_line(found, cells, page, waiting);
                 at = stride.at;
             }
             Next::End => {
-                return put_text(page, waiting, b"end\n");
+                return put_text(b"end\n", page, waiting);
             }
             Next::Refused(refusal, node) => {
-                return refused_line(page, waiting, refusal, node);
+                return refused_line(refusal, node, page, waiting);
             }
         }
     }

@@ -20,9 +20,9 @@ pub fn answer(
 {
     fill(cells);
     match rows::write_row(table, pool, start, numbers, cells) {
-        Row::Done(items, count) => done_line(page, used, items, count, cells, count),
+        Row::Done(items, count) => done_line(items, count, cells, count, page, used),
         Row::Refused(refusal, node, item) => {
-            refused_at_item(page, used, refusal, node, item, cells)
+            refused_at_item(refusal, node, item, cells, page, used)
         }
     }
 }
