@@ -23,7 +23,7 @@ use Rattle.texts.proofs.line.Answered.{within-room, read-numbers, read-unreadab
 use Rattle.texts.specs.Page.{Puts}
 use Rattle.texts.specs.Said.{unreadableText}
 use Rattle.texts.proofs.page.Putting.{none, told, _then_}
-use Rattle.calling.specs.Same.{same}
+use Rattle.asking.specs.Same.{same}
 use Rattle.calling.specs.Line.{readable}
 use Rattle.calling.specs.Calls.{Known, nothing, lineText}
 use Rattle.calling.specs.Input.{lineSize, after, lineOf, mostTableWords, mostPoolWords, bothRead, tableAt, isTable, saidAt, nextAt, nextKnown}

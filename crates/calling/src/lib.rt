@@ -1,9 +1,6 @@
 // Every public call from a shell: the lines of an input, and what each call prints. Nothing is
 // decided here: words are lent, a call is made, and what came back is printed.
 mod calls;
-mod cells;
-mod fields;
-mod lent;
 mod line;
 mod state;
 
@@ -14,9 +11,9 @@ ghost use Rattle.texts.specs.Page.{Puts};
 ghost use Rattle.calling.specs.Input.{printed};
 ghost use Rattle.calling.specs.Line.{readable as isReadable};
 ghost use Rattle.calling.specs.State.{Within, Turns};
-use fields::MOST_FIELDS;
-use fields::MOST_ROOM;
-use line::same;
+use asking::fields::MOST_FIELDS;
+use asking::fields::MOST_ROOM;
+use asking::same::same;
 use state::MOST_POOL_WORDS;
 use state::MOST_TABLE_WORDS;
 use state::State;
@@ -85,9 +82,9 @@ fn answer_line(
     let next = line::after(text, at);
     let line = &text[at..next];
     if same(line, b"table\n") {
-        return state::take_table(text, next, state.used, table, pool, page);
+        return state::take_table(text, next, table, pool, page, state.used);
     }
-    let used = calls::answer(line, state, table, pool, fields, buffer, page);
+    let used = calls::answer(table, pool, state, line, fields, buffer, page);
     State {
         at: next,
         used,
