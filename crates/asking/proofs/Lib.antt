@@ -1,2 +1,4 @@
--- What the calls cite of their lent buffers.
+-- What the proofs of more than one function, and those of the calls, cite.
+mod Comparing
+pub mod Taking
 pub mod Buffers

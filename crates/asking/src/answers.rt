@@ -13,89 +13,89 @@ use texts::page::put_text;
 use texts::said::refused;
 
 // The line is left open, since the reader prints the cells too.
-fn number(page: &mut [u8; PAGE_BYTES], used: usize, found: u64) -> usize
+fn number(found: u64, page: &mut [u8; PAGE_BYTES], used: usize) -> usize
     ensures { λ r. ⌜ Puts (numberText found) (now (page .entry)) used (now (page .exit)) r ⌝ }
 {
-    let named = put_text(page, used, b"number ");
-    put_number(page, named, found)
+    let named = put_text(b"number ", page, used);
+    put_number(found, page, named)
 }
 
-pub fn number_line(page: &mut [u8; PAGE_BYTES], used: usize, found: u64) -> usize
+pub fn number_line(found: u64, page: &mut [u8; PAGE_BYTES], used: usize) -> usize
     ensures { λ r. ⌜ Puts (numberLine found) (now (page .entry)) used (now (page .exit)) r ⌝ }
 {
-    let said = number(page, used, found);
-    put_text(page, said, b"\n")
+    let said = number(found, page, used);
+    put_text(b"\n", page, said)
 }
 
 // An item of a reader.
-pub fn item_line(page: &mut [u8; PAGE_BYTES], used: usize, found: u64, cells: usize) -> usize
+pub fn item_line(found: u64, cells: usize, page: &mut [u8; PAGE_BYTES], used: usize) -> usize
     ensures { λ r. ⌜ Puts (itemText found cells) (now (page .entry)) used (now (page .exit)) r ⌝ }
 {
-    let said = number(page, used, found);
-    let parted = put_text(page, said, b", ");
-    let counted = put_number(page, parted, cells as u64);
-    put_text(page, counted, b" cells\n")
+    let said = number(found, page, used);
+    let parted = put_text(b", ", page, said);
+    let counted = put_number(cells as u64, page, parted);
+    put_text(b" cells\n", page, counted)
 }
 
 // Ends a call's line: the call was to write the first `written` words of the buffer and no other.
-pub fn end_line(page: &mut [u8; PAGE_BYTES], used: usize, buffer: &[u64], written: usize) -> usize
+pub fn end_line(buffer: &[u64], written: usize, page: &mut [u8; PAGE_BYTES], used: usize) -> usize
     ensures { λ r. ⌜ Puts (endText (now (buffer .entry)) written) (now (page .entry)) used (now (page .exit)) r ⌝ }
 {
     if changed_from(buffer, written) {
-        return put_text(page, used, b" CHANGED\n");
+        return put_text(b" CHANGED\n", page, used);
     }
-    put_text(page, used, b"\n")
+    put_text(b"\n", page, used)
 }
 
 // So many cells, and the words that the call wrote: the cells themselves, or their numbers.
 pub fn listed_line(
-    page: &mut [u8; PAGE_BYTES],
-    used: usize,
     cells: usize,
     buffer: &[u64],
     written: usize,
+    page: &mut [u8; PAGE_BYTES],
+    used: usize,
 ) -> usize
     requires { ⌜ written ≤ length (now buffer) ⌝ }
     ensures { λ r. ⌜ Puts (cellsText cells (take written (now (buffer .entry))) ++ endText (now (buffer .entry)) written) (now (page .entry)) used
         (now (page .exit)) r ⌝ }
 {
-    let counted = put_number(page, used, cells as u64);
-    let named = put_text(page, counted, b" cells:");
-    let listed = put_numbers(page, named, &buffer[..written]);
-    end_line(page, listed, buffer, written)
+    let counted = put_number(cells as u64, page, used);
+    let named = put_text(b" cells:", page, counted);
+    let listed = put_numbers(&buffer[..written], page, named);
+    end_line(buffer, written, page, listed)
 }
 
 // The call used so many items and cells, and wrote the first `written` words of the buffer.
 pub fn done_line(
-    page: &mut [u8; PAGE_BYTES],
-    used: usize,
     items: usize,
     cells: usize,
     buffer: &[u64],
     written: usize,
+    page: &mut [u8; PAGE_BYTES],
+    used: usize,
 ) -> usize
     requires { ⌜ written ≤ length (now buffer) ⌝ }
     ensures { λ r. ⌜ Puts (itemsText items ++ (cellsText cells (take written (now (buffer .entry))) ++ endText (now (buffer .entry)) written))
         (now (page .entry)) used (now (page .exit)) r ⌝ }
 {
-    let counted = put_number(page, used, items as u64);
-    let named = put_text(page, counted, b" items, ");
-    listed_line(page, named, cells, buffer, written)
+    let counted = put_number(items as u64, page, used);
+    let named = put_text(b" items, ", page, counted);
+    listed_line(cells, buffer, written, page, named)
 }
 
 // A refused call on a row was to write no word of the buffer.
 pub fn refused_at_item(
-    page: &mut [u8; PAGE_BYTES],
-    used: usize,
     refusal: Refusal,
     node: u64,
     item: usize,
     buffer: &[u64],
+    page: &mut [u8; PAGE_BYTES],
+    used: usize,
 ) -> usize
     ensures { λ r. ⌜ Puts (refusedItem refusal node item ++ endText (now (buffer .entry)) 0) (now (page .entry)) used (now (page .exit)) r ⌝ }
 {
-    let said = refused(page, used, refusal, node);
-    let named = put_text(page, said, b" item ");
-    let placed = put_number(page, named, item as u64);
-    end_line(page, placed, buffer, 0)
+    let said = refused(refusal, node, page, used);
+    let named = put_text(b" item ", page, said);
+    let placed = put_number(item as u64, page, named);
+    end_line(buffer, 0, page, placed)
 }

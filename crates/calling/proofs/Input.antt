@@ -20,10 +20,10 @@ use Rattle.texts.specs.Line.{Reading, numbers, unreadable, lineAt, within, Read
 use Rattle.texts.specs.declared.line.Line.{Line}
 use Rattle.texts.specs.declared.line.Line.the-variants.{Numbers, Unreadable as NoLine}
 use Rattle.texts.proofs.line.Answered.{within-room, read-numbers, read-unreadable}
-use Rattle.texts.specs.Page.{Puts, Waits}
+use Rattle.texts.specs.Page.{Puts}
 use Rattle.texts.specs.Said.{unreadableText}
 use Rattle.texts.proofs.page.Putting.{none, told, _then_}
-use Rattle.calling.specs.Same.{same}
+use Rattle.asking.specs.Same.{same}
 use Rattle.calling.specs.Line.{readable}
 use Rattle.calling.specs.Calls.{Known, nothing, lineText}
 use Rattle.calling.specs.Input.{lineSize, after, lineOf, mostTableWords, mostPoolWords, bothRead, tableAt, isTable, saidAt, nextAt, nextKnown}
@@ -213,29 +213,27 @@ next-past text at l = by (isTable text at)
     by true = omega (arith, after-past text at l, after-from text (after text at), after-from text (after text (after text at)))
     by false = after-past text at l
 
-pub record Answering (text page : List ℕ) (s : State) (table pool : List ℕ) : Type 0 where
+pub record Answering (text old page : List ℕ) (s : State) (table pool : List ℕ) : Type 0 where
   pub within : Within text s
   pub said : List ℕ
   pub times : ℕ
   pub enough : length text - s .at < times
   pub is : printedBy (suc (length text)) text 0 nothing ≡ said ++ printedBy times text (s .at) (knownOf s table pool)
-  pub empty : List ℕ
-  pub so-far : Puts said empty 0 page (s .used)
+  pub so-far : Puts said old 0 page (s .used)
 
-pub answer-none : {text page : List ℕ} {s : State} {table pool : List ℕ} → Holds s 0 0 false 0 0 → Answering text page s table pool
+pub answer-none : {text old : List ℕ} {s : State} {table pool : List ℕ} → Holds s 0 0 false 0 0 → Answering text old old s table pool
 unfolding knownOf
-answer-none {text} {page} {s} {table} {pool} (to, waits, known, c, d) =
+answer-none {text} {old} {s} {table} {pool} (to, waits, known, c, d) =
     record {
       within = record { start = omega (arith, to); table = omega (arith, c); pool = omega (arith, d) };
       said = [];
       times = suc (length text);
       enough = omega (arith, to);
       is = rw (to, known);
-      empty = page;
       so-far = rw waits none;
     }
 
-module _ {text page : List ℕ} {s : State} {table pool : List ℕ} (a : Answering text page s table pool) where
+module _ {text old page : List ℕ} {s : State} {table pool : List ℕ} (a : Answering text old page s table pool) where
   module _ (l : s .at < length text) {table' pool' page' : List ℕ} {r : State} (t : Turns text s table pool page table' pool' page' r) where
     pub answer-less : length text - r .at < length text - s .at
     answer-less = omega (arith, t .to, next-past text (s .at) l)
@@ -251,7 +249,7 @@ module _ {text page : List ℕ} {s : State} {table pool : List ℕ} (a : Answeri
         let to = ap (λ (n : ℕ). said ++ printedBy f text n next) (sym (t .to)) in
         (f, refl, rw (lt-leb (length text) (s .at) l) (to ∙ ap (λ (k : Known). said ++ printedBy f text (r .at) k) (sym (t .knows))))
 
-    pub answer-more : Answering text page' r table' pool'
+    pub answer-more : Answering text old page' r table' pool'
     answer-more =
         let (f, less, text-is) = step (a .times) (a .enough) in
         let new = saidAt text (s .at) (knownOf s table pool) in
@@ -261,7 +259,6 @@ module _ {text page : List ℕ} {s : State} {table pool : List ℕ} (a : Answeri
           times = f;
           enough = omega (arith, a .enough, less, answer-less);
           is = a .is ∙ ap (λ (xs : List ℕ). a .said ++ xs) text-is ∙ sym (append-assoc (a .said) new (printedBy f text (r .at) (knownOf r table' pool')));
-          empty = a .empty;
           so-far = a .so-far then t .puts;
         }
 
@@ -270,15 +267,14 @@ module _ {text page : List ℕ} {s : State} {table pool : List ℕ} (a : Answeri
   over zero h = refl
   over (suc f) h = rw (le-leb (length text) (s .at) h)
 
-  pub answer-all : {b : Bool} → b ≡ readable text → not b ≡ false → length text ≤ s .at → Waits (printed text) page (s .used)
+  pub answer-all : {b : Bool} → b ≡ readable text → not b ≡ false → length text ≤ s .at → Puts (printed text) old 0 page (s .used)
   unfolding printed
   answer-all {b} e f h =
       let y : readable text ≡ true = sym e ∙ not-false b f in
       let all : printedBy (suc (length text)) text 0 nothing ≡ a .said = a .is ∙ ap (λ (xs : List ℕ). a .said ++ xs) (over (a .times) h) ∙ append-nil
       (a .said) in
-      record { empty = a .empty; puts = rw (y, all) (a .so-far) }
+      rw (y, all) (a .so-far)
 
-pub answer-not : (text : List ℕ) {b : Bool} → b ≡ readable text → not b ≡ true → {old page : List ℕ} {used waits : ℕ} → used ≡ 0
-    → Puts unreadableText old used page waits → Waits (printed text) page waits
+pub answer-not : (text : List ℕ) {b : Bool} → b ≡ readable text → not b ≡ true → unreadableText ≡ printed text
 unfolding printed
-answer-not text {b} e f {old} z g = let n : readable text ≡ false = sym e ∙ not-true b f in record { empty = old; puts = rw n (rw z at g) }
+answer-not text {b} e f = let n : readable text ≡ false = sym e ∙ not-true b f in rw n

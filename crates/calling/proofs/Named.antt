@@ -1,24 +1,18 @@
--- What a line prints, by its word and its fields.
+-- What a line prints, by its word.
 --   line-unknown, line-call     where no table is known, and where one is
 --   first, next, last           the call that a word names: the first of those that are left, one of the others, or none
---   check-not, check-text       of `check`
---   one-not, one-text           of `write`, which has one number
 -- Assumes nothing.
-use mathlib.Core.Path.{_≡_, refl, _∙_}
+use mathlib.Core.Path.{_≡_, refl}
 use mathlib.Core.Bool.{Bool, true, false, not}
 use mathlib.Core.List.{List, [], _∷_}
 use Prim.Native.Nat.{ℕ, _-_}
-use native.Mathlib.Omega.{arith}
-use lib.ListN.{length, getD, take, drop}
+use lib.ListN.{length, take, drop}
 use borrow.Author.Tests.{not-true, not-false}
-use Rattle.grammar.specs.Verdict.{verdict}
 use Rattle.lists.proofs.Fills.{part-old}
-use Rattle.texts.specs.Ascii.{bytes}
 use Rattle.texts.specs.Said.{unreadableText}
-use Rattle.calling.specs.Same.{same}
-use Rattle.case_calls.specs.Check.{checkText}
+use Rattle.asking.specs.Same.{same}
 use Rattle.calling.specs.Line.{wordSize}
-use Rattle.calling.specs.Calls.{checkCall, alone, Entry, entry, calls, chosen, lineText}
+use Rattle.calling.specs.Calls.{Entry, entry, calls, chosen, lineText}
 use Rattle.calling.specs.State.{knownOf}
 use Rattle.calling.specs.declared.state.State.{State}
 
@@ -47,26 +41,3 @@ module _ (word name text : List ℕ) (es : List Entry) {b : Bool} (is : b ≡ sa
 pub last : (word : List ℕ) → unreadableText ≡ chosen word []
 unfolding chosen
 last word = refl
-
--- ---- `check`
-module _ (t p rest : List ℕ) {b : Bool} (e : b ≡ same rest (bytes "\n")) where
-  pub check-not : not b ≡ true → unreadableText ≡ checkCall t p rest
-  unfolding checkCall
-  check-not f = rw (← e, not-true b f)
-
-  pub check-text : not b ≡ false → checkText (verdict t p) ≡ checkCall t p rest
-  unfolding checkCall
-  check-text f = rw (← e, not-false b f)
-
--- ---- `write`
-pub one-not : (f : ℕ → List ℕ) (ns : List ℕ) → (length ns ≡ 1 → ⊥) → unreadableText ≡ alone f ns
-unfolding alone
-one-not f [] h = refl
-one-not f (n ∷ []) h = absurd (h refl)
-one-not f (n ∷ m ∷ ns) h = refl
-
-pub one-text : (f : ℕ → List ℕ) (ns : List ℕ) → length ns ≡ 1 → f (getD ns 0 0) ≡ alone f ns
-unfolding alone
-one-text f [] h = absurd (omega arith)
-one-text f (n ∷ []) h = refl
-one-text f (n ∷ m ∷ ns) h = absurd (omega arith)

@@ -23,13 +23,15 @@ use Rattle.texts.specs.Line.{spaced}
 use Rattle.texts.specs.Said.{unreadableText, refusedText, refusedLine}
 use Rattle.asking.specs.Texts.{numberText, numberLine, itemText, refusedItem, itemsText, cellsText}
 use Rattle.calling.specs.Line.{readable, wordSize}
-use Rattle.calling.specs.Same.{same}
-use Rattle.case_calls.specs.Check.{checkText}
-use Rattle.case_calls.specs.Read.{readText}
-use Rattle.case_calls.specs.Write.{writeText, caseText}
-use Rattle.row_calls.specs.Rows.{rowText, writeRowText, readRowText}
-use Rattle.row_calls.specs.Reader.{asksBy, asksText}
-use Rattle.calling.specs.Calls.{checkCall, askText, alone, wayText, chosen, lineText}
+use Rattle.asking.specs.Same.{same}
+use Rattle.case_calls.specs.Check.{checkText, checkCall}
+use Rattle.case_calls.specs.Read.{foundText, readText, readCall}
+use Rattle.case_calls.specs.Write.{writeText, caseText, alone, writeCall}
+use Rattle.row_calls.specs.Row.{rowText}
+use Rattle.row_calls.specs.WriteRow.{writeRowText, writeRowCall}
+use Rattle.row_calls.specs.ReadRow.{readRowText, readRowCall}
+use Rattle.row_calls.specs.Reader.{asksBy, asksText, readerCall}
+use Rattle.calling.specs.Calls.{chosen, lineText}
 use Rattle.calling.specs.Input.{lineSize, after, lineOf, tableAt, saidAt, nextAt, nextKnown, printedBy, printed}
 
 data Print : Type 0 where
@@ -64,6 +66,6 @@ prints =
 worked : map asked prints ≡ map expected prints
 unfolding walking fitted opening frontOf wholeOf writes reads writesRow Written.inTurn Written.rowOf gather readsRow next nextOf run valueFrom
     wellFormed numeral decimalBy decimal ended words numberOfWord numbersOf lineAt unreadableText numberText numberLine itemText refusedText
-    refusedLine refusedItem itemsText spaced cellsText readable wordSize same checkText readText writeText caseText rowText writeRowText readRowText
-    asksBy asksText checkCall askText alone wayText chosen lineText lineSize after lineOf tableAt saidAt nextAt nextKnown printedBy printed
+    refusedLine refusedItem itemsText spaced cellsText readable wordSize same checkText checkCall foundText readText readCall writeText caseText alone
+    writeCall rowText writeRowText writeRowCall readRowText readRowCall asksBy asksText readerCall chosen lineText lineSize after lineOf tableAt saidAt nextAt nextKnown printedBy printed
 worked = refl

@@ -12,7 +12,7 @@ use lib.ListN.{length, take, drop}
 use Rattle.texts.specs.Ascii.{bytes, lf}
 use Rattle.texts.specs.Line.{Reading, numbers, unreadable, lineAt, within}
 use Rattle.texts.specs.Said.{unreadableText}
-use Rattle.calling.specs.Same.{same}
+use Rattle.asking.specs.Same.{same}
 use Rattle.calling.specs.Line.{readable}
 use Rattle.calling.specs.Calls.{Known, about, nothing, lineText}
 

@@ -1,7 +1,5 @@
 -- What the contracts of the calls from a shell cite.
 pub mod Line
-pub mod Same
-pub mod Fields
 pub mod Calls
 pub mod Input
 pub mod State

@@ -2,26 +2,28 @@
 ghost use Prim.Native.Nat.{_≤_};
 ghost use lib.ListN.{length};
 ghost use Rattle.texts.specs.Page.{Puts};
-ghost use Rattle.calling.specs.Calls.{checkCall, rowCalls, calls, chosen, lineText};
+ghost use Rattle.calling.specs.Calls.{rowCalls, calls, chosen, lineText};
 ghost use Rattle.calling.specs.State.{knownOf};
-use super::cells;
-use super::cells::Ask;
-use super::fields::MOST_FIELDS;
-use super::fields::MOST_ROOM;
-use super::lent;
-use super::lent::Way;
-use super::line::same;
 use super::line::word_size;
 use super::state::State;
+use asking::fields::MOST_FIELDS;
+use asking::fields::MOST_ROOM;
+use asking::same::same;
+use case_calls::check;
+use case_calls::read;
+use case_calls::write;
+use row_calls::read_row;
+use row_calls::reader;
+use row_calls::write_row;
 use texts::page::PAGE_BYTES;
 use texts::said::unreadable;
 
 // A call of a line, about the known table.
 pub fn answer(
-    line: &[u8],
-    state: State,
     table: &[u64],
     pool: &[u64],
+    state: State,
+    line: &[u8],
     fields: &mut [u64; MOST_FIELDS],
     buffer: &mut [u64; MOST_ROOM],
     page: &mut [u8; PAGE_BYTES],
@@ -38,10 +40,10 @@ pub fn answer(
     let pool_words = state.pool;
     let size = word_size(line);
     case_call(
-        &line[..size],
-        &line[size..],
         &table[..table_words],
         &pool[..pool_words],
+        &line[..size],
+        &line[size..],
         fields,
         buffer,
         page,
@@ -51,10 +53,10 @@ pub fn answer(
 
 // The calls on one case.
 fn case_call(
-    word: &[u8],
-    rest: &[u8],
     table: &[u64],
     pool: &[u64],
+    word: &[u8],
+    rest: &[u8],
     fields: &mut [u64; MOST_FIELDS],
     buffer: &mut [u64; MOST_ROOM],
     page: &mut [u8; PAGE_BYTES],
@@ -64,23 +66,23 @@ fn case_call(
         (now (page .exit)) r ⌝ }
 {
     if same(word, b"check") {
-        return check(rest, table, pool, page, used);
+        return check::answer(table, pool, rest, page, used);
     }
     if same(word, b"write") {
-        return lent::answer(Way::Write, rest, table, pool, fields, buffer, page, used);
+        return write::answer(table, pool, rest, fields, buffer, page, used);
     }
     if same(word, b"read") {
-        return cells::answer(Ask::Read, rest, table, pool, fields, page, used);
+        return read::answer(table, pool, rest, fields, page, used);
     }
-    row_call(word, rest, table, pool, fields, buffer, page, used)
+    row_call(table, pool, word, rest, fields, buffer, page, used)
 }
 
 // The calls on rows.
 fn row_call(
-    word: &[u8],
-    rest: &[u8],
     table: &[u64],
     pool: &[u64],
+    word: &[u8],
+    rest: &[u8],
     fields: &mut [u64; MOST_FIELDS],
     buffer: &mut [u64; MOST_ROOM],
     page: &mut [u8; PAGE_BYTES],
@@ -90,29 +92,13 @@ fn row_call(
         (now (page .exit)) r ⌝ }
 {
     if same(word, b"write-row") {
-        return lent::answer(Way::WriteRow, rest, table, pool, fields, buffer, page, used);
+        return write_row::answer(table, pool, rest, fields, buffer, page, used);
     }
     if same(word, b"read-row") {
-        return lent::answer(Way::ReadRow, rest, table, pool, fields, buffer, page, used);
+        return read_row::answer(table, pool, rest, fields, buffer, page, used);
     }
     if same(word, b"reader") {
-        return cells::answer(Ask::Reader, rest, table, pool, fields, page, used);
+        return reader::answer(table, pool, rest, fields, page, used);
     }
     unreadable(page, used)
-}
-
-// `check` has no fields.
-fn check(
-    rest: &[u8],
-    table: &[u64],
-    pool: &[u64],
-    page: &mut [u8; PAGE_BYTES],
-    used: usize,
-) -> usize
-    ensures { λ r. ⌜ Puts (checkCall (now (table .entry)) (now (pool .entry)) (now (rest .entry))) (now (page .entry)) used (now (page .exit)) r ⌝ }
-{
-    if !same(rest, b"\n") {
-        return unreadable(page, used);
-    }
-    case_calls::check::answer(table, pool, page, used)
 }

@@ -1,46 +1,41 @@
 // Every public call from a shell: the lines of an input, and what each call prints. Nothing is
 // decided here: words are lent, a call is made, and what came back is printed.
 mod calls;
-mod cells;
-mod fields;
-mod lent;
 mod line;
 mod state;
 
 ghost use mathlib.Core.Path.{_≡_};
 ghost use Prim.Native.Nat.{_<_};
 ghost use lib.ListN.{length};
-ghost use Rattle.texts.specs.Page.{Waits};
+ghost use Rattle.texts.specs.Page.{Puts};
 ghost use Rattle.calling.specs.Input.{printed};
 ghost use Rattle.calling.specs.Line.{readable as isReadable};
 ghost use Rattle.calling.specs.State.{Within, Turns};
-use fields::MOST_FIELDS;
-use fields::MOST_ROOM;
-use line::same;
+use asking::fields::MOST_FIELDS;
+use asking::fields::MOST_ROOM;
+use asking::same::same;
 use state::MOST_POOL_WORDS;
 use state::MOST_TABLE_WORDS;
 use state::State;
 use texts::ascii::LF;
-use texts::page;
 use texts::page::PAGE_BYTES;
-use texts::said;
+use texts::said::unreadable;
 
 // One byte more than the longest input, to see that an input is longer: it is unreadable as a whole.
 pub const INPUT_ROOM: usize = 4194305;
 
-// Answers each line of an input on standard output.
-pub fn answer_all(text: &[u8]) {
-    let mut page = [0u8; PAGE_BYTES];
-    let mut state = state::without_table(0, 0);
+// Answers each line of an input, on a page where nothing waits.
+pub fn answer(text: &[u8], page: &mut [u8; PAGE_BYTES]) -> usize
+    ensures { λ r. ⌜ Puts (printed (now (text .entry))) (now (page .entry)) 0 (now (page .exit)) r ⌝ }
+{
     if !readable(text) {
-        let waiting = said::unreadable(&mut page, state.used);
-        finish(text, &page, waiting);
-        return;
+        return unreadable(page, 0);
     }
     let mut table = [0u64; MOST_TABLE_WORDS];
     let mut pool = [0u64; MOST_POOL_WORDS];
     let mut fields = [0u64; MOST_FIELDS];
     let mut buffer = [0u64; MOST_ROOM];
+    let mut state = state::without_table(0, 0);
     while state.at < text.len() {
         state = answer_line(
             text,
@@ -49,18 +44,10 @@ pub fn answer_all(text: &[u8]) {
             &mut pool,
             &mut fields,
             &mut buffer,
-            &mut page,
+            page,
         );
     }
-    finish(text, &page, state.used);
-}
-
-// Writes out what waits. What is written is in no contract, so the caller has to show that it is what
-// the text prints.
-fn finish(text: &[u8], page: &[u8; PAGE_BYTES], used: usize)
-    requires { ⌜ Waits (printed (now text)) (now page) used ⌝ }
-{
-    page::flush(page, used);
+    state.used
 }
 
 // An input of no bytes has no line that could lack its LF.
@@ -95,9 +82,9 @@ fn answer_line(
     let next = line::after(text, at);
     let line = &text[at..next];
     if same(line, b"table\n") {
-        return state::take_table(text, next, state.used, table, pool, page);
+        return state::take_table(text, next, table, pool, page, state.used);
     }
-    let used = calls::answer(line, state, table, pool, fields, buffer, page);
+    let used = calls::answer(table, pool, state, line, fields, buffer, page);
     State {
         at: next,
         used,

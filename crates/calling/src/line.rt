@@ -1,10 +1,9 @@
-// Lines of bytes: where a line ends, the word that it starts with, and whether two texts are the same.
+// Lines of bytes: where a line ends, and the word that it starts with.
 ghost use mathlib.Core.Path.{_≡_};
 ghost use Prim.Native.Nat.{_≤_};
 ghost use lib.ListN.{length};
 ghost use Rattle.calling.specs.Input.{after as afterOf};
 ghost use Rattle.calling.specs.Line.{wordSize};
-ghost use Rattle.calling.specs.Same.{same as isSame};
 use texts::ascii::LF;
 use texts::ascii::SPACE;
 
@@ -38,20 +37,4 @@ pub fn word_size(line: &[u8]) -> usize
         i += 1;
     }
     i
-}
-
-pub fn same(a: &[u8], b: &[u8]) -> bool
-    ensures { λ r. ⌜ r ≡ isSame (now (a .entry)) (now (b .entry)) ⌝ }
-{
-    if a.len() != b.len() {
-        return false;
-    }
-    let mut i = 0;
-    while i < a.len() {
-        if a[i] != b[i] {
-            return false;
-        }
-        i += 1;
-    }
-    true
 }

@@ -41,10 +41,10 @@ pub fn without_table(at: usize, used: usize) -> State
 pub fn take_table(
     text: &[u8],
     at: usize,
-    used: usize,
     table: &mut [u64; MOST_TABLE_WORDS],
     pool: &mut [u64; MOST_POOL_WORDS],
     page: &mut [u8; PAGE_BYTES],
+    used: usize,
 ) -> State
     requires { ⌜ at ≤ length (now text) ⌝ }
     ensures { λ r. ⌜ Tables (now (text .entry)) at (now (page .entry)) used (now (table .exit)) (now (pool .exit)) (now (page .exit)) r ⌝ }

@@ -1,10 +1,12 @@
 -- What `write` has printed, and left in the buffer: its other words are as they were.
 --   prints-done, prints-refused    by its answer
+--   one-not, one-text              by its numbers: it has one
 -- Assumes nothing.
-use mathlib.Core.Path.{_≡_, ap, _∙_}
-use mathlib.Core.List.{List, _++_}
+use mathlib.Core.Path.{_≡_, refl, ap, _∙_}
+use mathlib.Core.List.{List, [], _∷_, _++_}
 use Prim.Native.Nat.{ℕ}
-use lib.ListN.{length, take}
+use native.Mathlib.Omega.{arith}
+use lib.ListN.{length, getD, take}
 use Rattle.grammar.specs.Sizes.{rulesOf}
 use Rattle.grammar.specs.declared.refusal.Refusal.{Refusal}
 use Rattle.walk.specs.Walk.{walk, cells, depth}
@@ -14,12 +16,12 @@ use Rattle.cases.specs.declared.writing.Written.the-variants.{Done, Refused}
 use Rattle.cases.proofs.Counted.{written-size, written-cells}
 use Rattle.cases.proofs.Values.{wrote-is}
 use Rattle.texts.specs.Page.{Puts}
-use Rattle.texts.specs.Said.{refusedText, refusedLine}
+use Rattle.texts.specs.Said.{unreadableText, refusedText, refusedLine}
 use Rattle.texts.proofs.page.Putting.{told}
 use Rattle.asking.specs.Buffer.{startWords}
 use Rattle.asking.specs.Texts.{cellsText, endText}
 use Rattle.asking.proofs.Buffers.{start-length, end-done, end-left}
-use Rattle.case_calls.specs.Write.{writeText, caseText, PrintsCase}
+use Rattle.case_calls.specs.Write.{writeText, caseText, PrintsCase, alone}
 
 module _ {t p : List ℕ} {i n : ℕ} (old : List ℕ) {filled last : List ℕ} {r : Written} (start : filled ≡ startWords 0 (length old))
     (k : Wrote t p i n filled last r) where
@@ -43,3 +45,17 @@ module _ {t p : List ℕ} {i n : ℕ} (old : List ℕ) {filled last : List ℕ} 
       → Puts (refusedText x node ++ endText last 0) page used page' s → PrintsCase t p i n old last page used page' s
   unfolding caseText writeText refusedLine
   prints-refused {x} {node} e g = prints (told (rw (← answer, e, end-left (length old) (left (Refused x node) e) start)) g)
+
+-- ---- NUMBER, and no more
+module _ (f : ℕ → ℕ → ℕ → List ℕ) (i room : ℕ) where
+  pub one-not : (ns : List ℕ) → (length ns ≡ 1 → ⊥) → unreadableText ≡ alone f i room ns
+  unfolding alone
+  one-not [] h = refl
+  one-not (n ∷ []) h = absurd (h refl)
+  one-not (n ∷ m ∷ ns) h = refl
+
+  pub one-text : (ns : List ℕ) → length ns ≡ 1 → f i room (getD ns 0 0) ≡ alone f i room ns
+  unfolding alone
+  one-text [] h = absurd (omega arith)
+  one-text (n ∷ []) h = refl
+  one-text (n ∷ m ∷ ns) h = absurd (omega arith)

@@ -1,4 +1,4 @@
-// The calls on one case: each is made with what a line asks for, and what came back is put on the page.
+// The calls on one case: each takes the rest of its line, is made with what that asks for, and puts what came back on the page.
 pub mod check;
 pub mod read;
 pub mod write;

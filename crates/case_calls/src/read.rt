@@ -1,25 +1,32 @@
 // `read START CELL CELL ..`: the number of a case, from its cells.
-ghost use Rattle.cases.specs.Read.{reads};
 ghost use Rattle.texts.specs.Page.{Puts};
-ghost use Rattle.case_calls.specs.Read.{readText};
+ghost use Rattle.case_calls.specs.Read.{readCall};
 use asking::answers::number_line;
+use asking::fields::AFTER_START;
+use asking::fields::Cells;
+use asking::fields::MOST_FIELDS;
+use asking::fields::take_cells;
 use cases::Found;
 use texts::page::PAGE_BYTES;
 use texts::said::refused_line;
+use texts::said::unreadable;
 
 pub fn answer(
     table: &[u64],
     pool: &[u64],
-    start: usize,
-    cells: &[u64],
+    rest: &[u8],
+    fields: &mut [u64; MOST_FIELDS],
     page: &mut [u8; PAGE_BYTES],
     used: usize,
 ) -> usize
-    ensures { λ r. ⌜ Puts (readText (reads (now (table .entry)) (now (pool .entry)) start (now (cells .entry)))) (now (page .entry)) used (now (page .exit)) r
-        ⌝ }
+    ensures { λ r. ⌜ Puts (readCall (now (table .entry)) (now (pool .entry)) (now (rest .entry))) (now (page .entry)) used (now (page .exit)) r ⌝ }
 {
-    match cases::read(table, pool, start, cells) {
-        Found::Number(found) => number_line(page, used, found),
-        Found::Refused(refusal, node) => refused_line(page, used, refusal, node),
+    let Cells::Asked(start, count) = take_cells(rest, fields) else {
+        return unreadable(page, used);
+    };
+    let words: &[u64] = fields;
+    match cases::read(table, pool, start, &words[AFTER_START..count]) {
+        Found::Number(found) => number_line(found, page, used),
+        Found::Refused(refusal, node) => refused_line(refusal, node, page, used),
     }
 }

@@ -3,4 +3,4 @@ mod input;
 mod print;
 
 pub use input::INPUT_ROOM;
-pub use print::print_all;
+pub use print::answer;

@@ -1,9 +1,10 @@
-// What an input prints: all of it is put on a page, and `print_all` writes out what waits there.
+// What an input prints: all of it is put on a page.
 ghost use mathlib.Core.Path.{_≡_};
-ghost use Rattle.texts.specs.Page.{Puts, Waits};
+ghost use Rattle.texts.specs.Page.{Puts};
 ghost use Rattle.printing.specs.Texts.{caseText, caseRefusedText};
 ghost use Rattle.checked.specs.Opening.{opening};
-ghost use Rattle.printing.specs.Printed.{caseLine, printed, Judges, Answers};
+ghost use Rattle.printing.specs.Input.{poolLine, oneAt, withStart, withPool};
+ghost use Rattle.printing.specs.Printed.{caseLine, told, printed, Judges, Answers};
 use super::input::INPUT_ROOM;
 use super::input::One;
 use super::input::POOL_WORDS;
@@ -19,7 +20,6 @@ use grammar::refusal::number_of;
 use texts::line::Line;
 use texts::line::numbers_at;
 use texts::page::PAGE_BYTES;
-use texts::page::flush;
 use texts::page::put_line;
 use texts::page::put_number;
 use texts::page::put_text;
@@ -29,77 +29,70 @@ use texts::said::unreadable;
 // "The program has room for 4,096 cells, so a longer case is refused 14."
 const ROOM: usize = 4096;
 
-// Prints what an input asks for.
-pub fn print_all(text: &[u8]) {
-    let mut table = [0u64; TABLE_WORDS];
-    let mut pool = [0u64; POOL_WORDS];
-    let mut page = [0u8; PAGE_BYTES];
-    let used = answer(text, &mut table, &mut pool, &mut page);
-    finish(text, &page, used);
-}
-
-// Writes out what waits. What is written is in no contract, so the caller has to show that it is what
-// the text prints.
-fn finish(text: &[u8], page: &[u8; PAGE_BYTES], used: usize)
-    requires { ⌜ Waits (printed (now text)) (now page) used ⌝ }
-{
-    flush(page, used);
-}
-
 // "table words, pool words (this line alone may be empty), start node, then one number a line"; "Anything
-// else prints only `unreadable`". All of it is read before anything is answered.
-fn answer(
-    text: &[u8],
-    table: &mut [u64; TABLE_WORDS],
-    pool: &mut [u64; POOL_WORDS],
-    page: &mut [u8; PAGE_BYTES],
-) -> usize
+// else prints only `unreadable`". All of it is read before anything is answered, on a page where nothing waits.
+pub fn answer(text: &[u8], page: &mut [u8; PAGE_BYTES]) -> usize
     ensures { λ r. ⌜ Puts (printed (now (text .entry))) (now (page .entry)) 0 (now (page .exit)) r ⌝ }
 {
     if INPUT_ROOM <= text.len() {
         return unreadable(page, 0);
     }
-    let Line::Numbers(table_count, pool_at) = numbers_at(text, 0, table) else {
+    let mut table = [0u64; TABLE_WORDS];
+    let Line::Numbers(count, next) = numbers_at(text, 0, &mut table) else {
         return unreadable(page, 0);
     };
-    if table_count == 0 {
+    if count == 0 {
         return unreadable(page, 0);
     }
-    let Line::Numbers(pool_count, start_at) = numbers_at(text, pool_at, pool) else {
+    with_table(&table[..count], text, next, page)
+}
+
+// The pool's line stands at `at`.
+fn with_table(table: &[u64], text: &[u8], at: usize, page: &mut [u8; PAGE_BYTES]) -> usize
+    ensures { λ r. ⌜ Puts (told (withPool (now (text .entry)) (now (table .entry)) (poolLine (now (text .entry)) at))) (now (page .entry)) 0
+        (now (page .exit)) r ⌝ }
+{
+    let mut pool = [0u64; POOL_WORDS];
+    let Line::Numbers(count, next) = numbers_at(text, at, &mut pool) else {
         return unreadable(page, 0);
     };
-    let One::Number(first, from) = one_at(text, start_at) else {
+    with_pool(table, &pool[..count], text, next, page)
+}
+
+// The start node's line stands at `at`.
+fn with_pool(
+    table: &[u64],
+    pool: &[u64],
+    text: &[u8],
+    at: usize,
+    page: &mut [u8; PAGE_BYTES],
+) -> usize
+    ensures { λ r. ⌜ Puts (told (withStart (now (text .entry)) (now (table .entry)) (now (pool .entry)) (oneAt (now (text .entry)) at))) (now (page .entry)) 0
+        (now (page .exit)) r ⌝ }
+{
+    let One::Number(first, from) = one_at(text, at) else {
         return unreadable(page, 0);
     };
     if !one_each(text, from) {
         return unreadable(page, 0);
     }
-    let words: &[u64] = table;
-    let codes: &[u64] = pool;
-    judge(
-        text,
-        from,
-        &words[..table_count],
-        &codes[..pool_count],
-        first as usize,
-        page,
-    )
+    judge(table, pool, first as usize, text, from, page)
 }
 
 // The print of an accepted table's input is that of its numbers; of any other it is one line.
 fn judge(
-    text: &[u8],
-    from: usize,
     table: &[u64],
     pool: &[u64],
     first: usize,
+    text: &[u8],
+    from: usize,
     page: &mut [u8; PAGE_BYTES],
 ) -> usize
     ensures { λ r. ⌜ Judges (now (text .entry)) from (now (table .entry)) (now (pool .entry)) first (now (page .entry)) (now (page .exit)) r ⌝ }
 {
     match start(table, pool, first) {
-        Verdict::Accepted => put_cases(text, from, table, pool, first, page),
-        Verdict::Refused(r, k) => refused_line(page, 0, r, k),
+        Verdict::Accepted => put_cases(table, pool, first, text, from, page),
+        Verdict::Refused(r, k) => refused_line(r, k, page, 0),
     }
 }
 
@@ -113,11 +106,11 @@ fn start(table: &[u64], pool: &[u64], start: usize) -> Verdict
 
 // A line for each number from a place on.
 fn put_cases(
-    text: &[u8],
-    from: usize,
     table: &[u64],
     pool: &[u64],
     first: usize,
+    text: &[u8],
+    from: usize,
     page: &mut [u8; PAGE_BYTES],
 ) -> usize
     ensures { λ r. ⌜ Answers (now (text .entry)) from (now (table .entry)) (now (pool .entry)) first (now (page .entry)) (now (page .exit)) r ⌝ }
@@ -148,26 +141,26 @@ fn put_answer(
 {
     let mut cells = [0u64; ROOM];
     match cases::write(table, pool, first, n, &mut cells) {
-        Written::Done(count) => put_case(page, used, n, &cells[..count]),
-        Written::Refused(r, _) => put_case_refused(page, used, n, r),
+        Written::Done(count) => put_case(n, &cells[..count], page, used),
+        Written::Refused(r, _) => put_case_refused(n, r, page, used),
     }
 }
 
-fn put_case(page: &mut [u8; PAGE_BYTES], used: usize, n: u64, cells: &[u64]) -> usize
+fn put_case(n: u64, cells: &[u64], page: &mut [u8; PAGE_BYTES], used: usize) -> usize
     ensures { λ r. ⌜ Puts (caseText n (now (cells .entry))) (now (page .entry)) used (now (page .exit)) r ⌝ }
 {
-    let named = put_text(page, used, b"case ");
-    let numbered = put_number(page, named, n);
-    let parted = put_text(page, numbered, b": ");
-    put_line(page, parted, cells)
+    let named = put_text(b"case ", page, used);
+    let numbered = put_number(n, page, named);
+    let parted = put_text(b": ", page, numbered);
+    put_line(cells, page, parted)
 }
 
-fn put_case_refused(page: &mut [u8; PAGE_BYTES], used: usize, n: u64, refusal: Refusal) -> usize
+fn put_case_refused(n: u64, refusal: Refusal, page: &mut [u8; PAGE_BYTES], used: usize) -> usize
     ensures { λ r. ⌜ Puts (caseRefusedText n refusal) (now (page .entry)) used (now (page .exit)) r ⌝ }
 {
-    let named = put_text(page, used, b"case ");
-    let numbered = put_number(page, named, n);
-    let said = put_text(page, numbered, b" refused ");
-    let placed = put_number(page, said, number_of(refusal));
-    put_text(page, placed, b"\n")
+    let named = put_text(b"case ", page, used);
+    let numbered = put_number(n, page, named);
+    let said = put_text(b" refused ", page, numbered);
+    let placed = put_number(number_of(refusal), page, said);
+    put_text(b"\n", page, placed)
 }

@@ -20,7 +20,9 @@ use Rattle.texts.proofs.page.Putting.{told}
 use Rattle.asking.specs.Buffer.{startWords}
 use Rattle.asking.specs.Texts.{refusedItem, itemsText, cellsText, endText}
 use Rattle.asking.proofs.Buffers.{start-length, end-done, end-left}
-use Rattle.row_calls.specs.Rows.{rowText, writeRowText, readRowText, PrintsWritten, PrintsRead}
+use Rattle.row_calls.specs.Row.{rowText}
+use Rattle.row_calls.specs.WriteRow.{writeRowText, PrintsWritten}
+use Rattle.row_calls.specs.ReadRow.{readRowText, PrintsRead}
 
 long : (old : List ℕ) {filled : List ℕ} → filled ≡ startWords 0 (length old) → length filled ≡ length old
 long old start = ap length start ∙ start-length 0 (length old)

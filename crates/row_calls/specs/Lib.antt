@@ -1,3 +1,5 @@
 -- What the calls on rows print.
-pub mod Rows
+pub mod Row
+pub mod WriteRow
+pub mod ReadRow
 pub mod Reader

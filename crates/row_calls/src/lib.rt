@@ -1,4 +1,4 @@
-// The calls on rows of cases: each is made with what a line asks for, and what came back is put on the page.
+// The calls on rows of cases: each takes the rest of its line, is made with what that asks for, and puts what came back on the page.
 pub mod read_row;
 pub mod reader;
 pub mod write_row;

@@ -1,12 +1,48 @@
 // `write-row START ROOM NUMBER ..`: the cells of numbers, one case after another, in a lent buffer.
-ghost use Rattle.row_calls.specs.Rows.{PrintsWritten};
+ghost use Prim.Native.Nat.{_≤_};
+ghost use lib.ListN.{length};
+ghost use Rattle.texts.specs.Page.{Puts};
+ghost use Rattle.asking.specs.Fields.{mostRoom};
+ghost use Rattle.row_calls.specs.WriteRow.{PrintsWritten, writeRowCall};
 use asking::answers::done_line;
 use asking::answers::refused_at_item;
 use asking::buffer::fill;
+use asking::fields::AFTER_ROOM;
+use asking::fields::Lent;
+use asking::fields::MOST_FIELDS;
+use asking::fields::take_row;
 use rows::Row;
 use texts::page::PAGE_BYTES;
+use texts::said::unreadable;
 
 pub fn answer(
+    table: &[u64],
+    pool: &[u64],
+    rest: &[u8],
+    fields: &mut [u64; MOST_FIELDS],
+    buffer: &mut [u64],
+    page: &mut [u8; PAGE_BYTES],
+    used: usize,
+) -> usize
+    requires { ⌜ mostRoom ≤ length (now buffer) ⌝ }
+    ensures { λ r. ⌜ Puts (writeRowCall (now (table .entry)) (now (pool .entry)) (now (rest .entry))) (now (page .entry)) used (now (page .exit)) r ⌝ }
+{
+    let Lent::Asked(start, room, count) = take_row(rest, fields) else {
+        return unreadable(page, used);
+    };
+    let words: &[u64] = fields;
+    call(
+        table,
+        pool,
+        start,
+        &words[AFTER_ROOM..count],
+        &mut buffer[..room],
+        page,
+        used,
+    )
+}
+
+fn call(
     table: &[u64],
     pool: &[u64],
     start: usize,
@@ -20,9 +56,9 @@ pub fn answer(
 {
     fill(cells);
     match rows::write_row(table, pool, start, numbers, cells) {
-        Row::Done(items, count) => done_line(page, used, items, count, cells, count),
+        Row::Done(items, count) => done_line(items, count, cells, count, page, used),
         Row::Refused(refusal, node, item) => {
-            refused_at_item(page, used, refusal, node, item, cells)
+            refused_at_item(refusal, node, item, cells, page, used)
         }
     }
 }

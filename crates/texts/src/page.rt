@@ -15,7 +15,7 @@ pub const PAGE_BYTES: usize = 65536;
 // As many as the largest word has.
 const MOST_DIGITS: usize = 20;
 
-pub fn put_text(page: &mut [u8; PAGE_BYTES], used: usize, text: &[u8]) -> usize
+pub fn put_text(text: &[u8], page: &mut [u8; PAGE_BYTES], used: usize) -> usize
     ensures { λ r. ⌜ Puts (now (text .entry)) (now (page .entry)) used (now (page .exit)) r ⌝ }
 {
     let mut waiting = used;
@@ -29,48 +29,51 @@ pub fn put_text(page: &mut [u8; PAGE_BYTES], used: usize, text: &[u8]) -> usize
     waiting
 }
 
-pub fn put_number(page: &mut [u8; PAGE_BYTES], used: usize, n: u64) -> usize
+pub fn put_number(n: u64, page: &mut [u8; PAGE_BYTES], used: usize) -> usize
     ensures { λ r. ⌜ Puts (decimal n) (now (page .entry)) used (now (page .exit)) r ⌝ }
 {
     let mut digits = [0u8; MOST_DIGITS];
     let first = spell(n, &mut digits);
-    put_text(page, used, &digits[first..])
+    put_text(&digits[first..], page, used)
 }
 
 // Each number after a space.
-pub fn put_numbers(page: &mut [u8; PAGE_BYTES], used: usize, numbers: &[u64]) -> usize
+pub fn put_numbers(numbers: &[u64], page: &mut [u8; PAGE_BYTES], used: usize) -> usize
     ensures { λ r. ⌜ Puts (spaced (now (numbers .entry))) (now (page .entry)) used (now (page .exit)) r ⌝ }
 {
     let mut waiting = used;
     let mut i = 0;
     while i < numbers.len() {
-        let parted = put_text(page, waiting, b" ");
-        waiting = put_number(page, parted, numbers[i]);
+        let parted = put_text(b" ", page, waiting);
+        waiting = put_number(numbers[i], page, parted);
         i += 1;
     }
     waiting
 }
 
 // A line of numbers with single spaces.
-pub fn put_line(page: &mut [u8; PAGE_BYTES], used: usize, numbers: &[u64]) -> usize
+pub fn put_line(numbers: &[u64], page: &mut [u8; PAGE_BYTES], used: usize) -> usize
     ensures { λ r. ⌜ Puts (lineText (now (numbers .entry))) (now (page .entry)) used (now (page .exit)) r ⌝ }
 {
     if numbers.len() == 0 {
-        return put_text(page, used, b"\n");
+        return put_text(b"\n", page, used);
     }
-    let first = put_number(page, used, numbers[0]);
-    let rest = put_numbers(page, first, &numbers[1..]);
-    put_text(page, rest, b"\n")
+    let first = put_number(numbers[0], page, used);
+    let rest = put_numbers(&numbers[1..], page, first);
+    put_text(b"\n", page, rest)
 }
 
 // Writes out what waits. A write that fails is not tried again: what is put later goes on to the page.
-pub fn flush(page: &[u8; PAGE_BYTES], used: usize) {
+pub fn flush(page: &[u8; PAGE_BYTES], used: usize) -> usize
+    ensures { λ r. ⌜ r ≡ 0 ⌝ }
+{
     let bytes: &[u8] = page;
     if bytes.len() <= used {
         io::write_all(STDOUT_FILENO, bytes);
-        return;
+        return 0;
     }
     io::write_all(STDOUT_FILENO, &bytes[..used]);
+    0
 }
 
 // Where the next byte goes: to the front again once a full page is written out.
@@ -80,8 +83,7 @@ fn place(page: &[u8; PAGE_BYTES], used: usize) -> usize
     if used < PAGE_BYTES {
         return used;
     }
-    flush(page, used);
-    0
+    flush(page, used)
 }
 
 // Writes a number's digits at the end of the scratch, the last one first, and answers where they begin.

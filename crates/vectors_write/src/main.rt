@@ -1,6 +1,8 @@
 // The vectors of `write` and `check`, answered as the program `calls` answers.
 use calling::INPUT_ROOM;
 use libc::STDIN_FILENO;
+use texts::page::PAGE_BYTES;
+use texts::page::flush;
 
 fn main() {
     let mut room = [0u8; INPUT_ROOM];
@@ -11,5 +13,7 @@ fn main() {
 fn answer_input(room: &mut [u8; INPUT_ROOM]) {
     let size = io::read_full(STDIN_FILENO, room);
     let text: &[u8] = room;
-    calling::answer_all(&text[..size]);
+    let mut page = [0u8; PAGE_BYTES];
+    let used = calling::answer(&text[..size], &mut page);
+    flush(&page, used);
 }

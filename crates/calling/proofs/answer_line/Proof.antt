@@ -20,8 +20,8 @@ answer-line-spec =
     (λ c κs. let at-after = c .before .before .before .before .before .before .before in let at-pre = at-after .before .before in
     next-within _ _ (at-after .after .ensures) (at-pre .pre .0 .start))
     (λ c. let at-if1 = c .before .before .before .before in let at-same = at-if1 .before in let at-after = at-same .before .before .before in
-    let at-pre = at-after .before .before in
-    turn-table _ _ (at-pre .pre .1) (at-after .after .ensures) (at-same .same .ensures) (at-if1 .if1 .taken) (c .take-table .ensures))
+    let at-pre = at-after .before .before in turn-table _ _ (at-pre .pre .1) (at-after .after .ensures) (at-same .same .ensures) (at-if1 .if1 .taken) (c
+    .take-table .ensures))
     (λ c κs. let at-pre = c .before .before .before .before .before .before .before .before .before .before .before .before .before in
     (omega (arith, at-pre .pre .0 .table), omega (arith, at-pre .pre .0 .pool)))
     (λ c. let at-if1 = c .before .before .before .before .before .before .before .before in let at-same = at-if1 .before in

@@ -1,37 +1,33 @@
--- What a whole input prints, by what was read of it, line after line.
---   too-long, no-table, empty-table, no-pool, no-start, no-numbers    what makes it unreadable
---   table-fits, pool-fits    the words that are lent on stand in those that were lent
---   whole                    all its lines are readable
+-- What an input prints, by what was read of it, line after line.
+--   too-long, no-table, empty-table, table-text    by the table's line, which is the first
+--   no-pool, pool-text                             by the pool's
+--   no-start, no-numbers, some-numbers             by the start node's, and by those behind it
 -- Assumes nothing.
 use mathlib.Core.Path.{_≡_, refl, sym, ap, _∙_}
 use mathlib.Core.Bool.{Bool, true, false, not, false≢true, true≢false}
-use mathlib.Core.List.{List, [], _∷_, _++_}
+use mathlib.Core.List.{List, [], _∷_}
 use mathlib.Core.Option.{Option, none, some}
 use Prim.Native.Nat.{ℕ, _≤_, _<_}
 use native.Mathlib.Omega.{arith}
-use lib.ListN.{length, take, drop}
-use lib.Seq.{take-append-seam}
+use lib.ListN.{length, take}
 use borrow.Author.Tests.{le-leb, lt-leb, not-true, not-false}
 use Rattle.texts.specs.Line.{Reading, numbers, unreadable, lineAt, within, ReadLine}
 use Rattle.texts.specs.Page.{Puts}
 use Rattle.texts.specs.Said.{unreadableText}
 use Rattle.texts.specs.declared.line.Line.{Line}
 use Rattle.texts.specs.declared.line.Line.the-variants.{Numbers, Unreadable}
-use Rattle.texts.proofs.line.Answered.{within-room, ReadNumbers, read-numbers, read-unreadable}
-use Rattle.printing.specs.Input.{unclear, mostBytes, tableWords, poolWords, notEmpty, tableLine, poolLine, oneAt, numbersFrom, readable}
+use Rattle.texts.proofs.line.Answered.{ReadNumbers, read-numbers, read-within, read-front, read-unreadable}
+use Rattle.printing.specs.Input.{Input, unclear, mostBytes, tableWords, poolWords, notEmpty, tableLine, poolLine, oneAt, numbersFrom, readable}
 use Rattle.printing.specs.Input.{withNumbers, withStart, withPool, withTable, inputOf}
 use Rattle.printing.specs.Printed.{told, printed, Judges}
 use Rattle.printing.specs.declared.input.One.{One}
 use Rattle.printing.specs.declared.input.One.the-variants.{Number, Not}
 
-unclear-text : (text : List ℕ) → inputOf text ≡ unclear → unreadableText ≡ printed text
-unfolding printed told
-unclear-text text e = rw e
+unclear-text : {x : Input} → x ≡ unclear → unreadableText ≡ told x
+unfolding told
+unclear-text e = rw e
 
-front-words : (ns old : List ℕ) {last : List ℕ} {c : ℕ} → last ≡ ns ++ drop c old → length ns ≡ c → take c last ≡ ns
-front-words ns old e s = rw (e, ← s) (take-append-seam ns (drop (length ns) old))
-
--- "this line alone may be empty" is said of the pool's
+-- ---- the table's line
 notEmpty-none : (ns : List ℕ) (next : ℕ) → length ns ≡ 0 → notEmpty (numbers ns next) ≡ unreadable
 notEmpty-none [] next s = refl
 notEmpty-none (n ∷ ns) next s = absurd (omega arith)
@@ -41,77 +37,64 @@ notEmpty-some [] next s = absurd (s refl)
 notEmpty-some (n ∷ ns) next s = refl
 
 pub too-long : (text : List ℕ) → mostBytes < length text → unreadableText ≡ printed text
-unfolding inputOf tableLine
-too-long text l = unclear-text text (rw (lt-leb (length text) mostBytes l))
+unfolding printed inputOf tableLine
+too-long text l = unclear-text (rw (lt-leb (length text) mostBytes l))
 
-module _ {text : List ℕ} (l : length text ≤ mostBytes) {tOld tLast : List ℕ} {a : Line} (k : ReadLine text 0 tOld tLast a)
-    (wide : length tOld ≡ tableWords) where
-  first-line : (x : Reading) → within tableWords (lineAt text 0) ≡ x → tableLine text ≡ notEmpty x
+module _ {text : List ℕ} (l : length text ≤ mostBytes) {old last : List ℕ} {r : Line} (k : ReadLine text 0 old last r) (wide : length old ≡ tableWords) where
+  first-line : {x : Reading} → within (length old) (lineAt text 0) ≡ x → tableLine text ≡ notEmpty x
   unfolding tableLine
-  first-line x e = rw (le-leb (length text) mostBytes l, e)
+  first-line e = rw (le-leb (length text) mostBytes l, ← wide, e)
 
-  pub no-table : a ≡ Unreadable → unreadableText ≡ printed text
-  unfolding inputOf
-  no-table e = unclear-text text (ap (withTable text) (first-line unreadable (rw wide at (read-unreadable k e .0))))
+  pub no-table : r ≡ Unreadable → unreadableText ≡ printed text
+  unfolding printed inputOf
+  no-table e = unclear-text (ap (withTable text) (first-line (read-unreadable k e .0)))
 
-  module _ {c next : ℕ} (ea : a ≡ Numbers c next) where
-    t : ReadNumbers text 0 tOld tLast c next
-    t = read-numbers k ea
+  module _ {count next : ℕ} (e : r ≡ Numbers count next) where
+    abbrev n : ReadNumbers text 0 old last count next
+    n = read-numbers k e
 
-    some-line : tableLine text ≡ notEmpty (numbers (t .ns) next)
-    some-line = first-line (numbers (t .ns) next) (rw (t .is) (within-room (t .ns) next (omega (arith, t .size, t .room))))
+    pub empty-table : count ≡ 0 → unreadableText ≡ printed text
+    unfolding printed inputOf
+    empty-table z = unclear-text (ap (withTable text) (first-line (read-within k e) ∙ notEmpty-none (n .ns) next (n .size ∙ z)))
 
-    pub empty-table : c ≡ 0 → unreadableText ≡ printed text
-    unfolding inputOf
-    empty-table z = unclear-text text (ap (withTable text) (some-line ∙ notEmpty-none (t .ns) next (t .size ∙ z)))
+    pub table-text : (count ≡ 0 → ⊥) → told (withPool text (take count last) (poolLine text next)) ≡ printed text
+    unfolding printed inputOf
+    table-text f =
+        let line = first-line (read-within k e) ∙ notEmpty-some (n .ns) next (λ s. f (sym (n .size) ∙ s)) in
+        ap told (rw (read-front k e) (sym (ap (withTable text) line)))
 
-    pub table-fits : c ≤ tableWords
-    table-fits = omega (arith, t .room)
+-- ---- the pool's
+module _ {text : List ℕ} {at : ℕ} (t : List ℕ) {old last : List ℕ} {r : Line} (k : ReadLine text at old last r) (size : length old ≡ poolWords) where
+  pub no-pool : r ≡ Unreadable → unreadableText ≡ told (withPool text t (poolLine text at))
+  unfolding poolLine
+  no-pool e = unclear-text (ap (withPool text t) (rw size at (read-unreadable k e .0)))
 
-    module _ (some-words : c ≡ 0 → ⊥) {pOld pLast : List ℕ} {b : Line} (j : ReadLine text next pOld pLast b) (size : length pOld ≡ poolWords) where
-      after-table : inputOf text ≡ withPool text (t .ns) (poolLine text next)
-      unfolding inputOf
-      after-table = ap (withTable text) (some-line ∙ notEmpty-some (t .ns) next (λ s. some-words (sym (t .size) ∙ s)))
+  pub pool-text : {count next : ℕ} → r ≡ Numbers count next
+      → told (withStart text t (take count last) (oneAt text next)) ≡ told (withPool text t (poolLine text at))
+  unfolding poolLine
+  pool-text e = ap told (rw (read-front k e, ← size) (sym (ap (withPool text t) (read-within k e))))
 
-      pub no-pool : b ≡ Unreadable → unreadableText ≡ printed text
-      unfolding poolLine
-      no-pool e = unclear-text text (after-table ∙ ap (withPool text (t .ns)) (rw size at (read-unreadable j e .0)))
+-- ---- the start node's, and the numbers'
+module _ (text : List ℕ) (at : ℕ) (t p : List ℕ) {o : One} (e : o ≡ oneAt text at) where
+  pub no-start : o ≡ Not → unreadableText ≡ told (withStart text t p (oneAt text at))
+  no-start q = unclear-text (ap (withStart text t p) (sym e ∙ q))
 
-      module _ {d at : ℕ} (eb : b ≡ Numbers d at) where
-        p : ReadNumbers text next pOld pLast d at
-        p = read-numbers j eb
+  module _ {i from : ℕ} (q : o ≡ Number i from) {b : Bool} (each : b ≡ readable (numbersFrom text from)) where
+    from-start : {x : Option (List ℕ)} → numbersFrom text from ≡ x → withStart text t p (oneAt text at) ≡ withNumbers t p i x
+    from-start h = ap (withStart text t p) (sym e ∙ q) ∙ ap (withNumbers t p i) h
 
-        pub pool-fits : d ≤ poolWords
-        pool-fits = omega (arith, p .room)
+    pub no-numbers : not b ≡ true → unreadableText ≡ told (withStart text t p (oneAt text at))
+    no-numbers f = by (numbersFrom text from) refl (sym each ∙ not-true b f)
+      where
+        by : (x : Option (List ℕ)) → numbersFrom text from ≡ x → readable x ≡ false → unreadableText ≡ told (withStart text t p (oneAt text at))
+        by none h g = unclear-text (from-start h)
+        by (some ns) h g = absurd (true≢false g)
 
-        after-pool : inputOf text ≡ withStart text (t .ns) (p .ns) (oneAt text at)
-        unfolding poolLine
-        after-pool = after-table ∙ rw (p .is, within-room (p .ns) at {room = poolWords} (omega (arith, p .size, p .room)))
-
-        module _ {o : One} (eo : o ≡ oneAt text at) where
-          pub no-start : o ≡ Not → unreadableText ≡ printed text
-          no-start e = unclear-text text (after-pool ∙ ap (withStart text (t .ns) (p .ns)) (sym eo ∙ e))
-
-          module _ {i from : ℕ} (es : o ≡ Number i from) {q : Bool} (eq : q ≡ readable (numbersFrom text from)) where
-            after-start : inputOf text ≡ withNumbers (t .ns) (p .ns) i (numbersFrom text from)
-            after-start = after-pool ∙ ap (withStart text (t .ns) (p .ns)) (sym eo ∙ es)
-
-            pub no-numbers : not q ≡ true → unreadableText ≡ printed text
-            no-numbers e = by (numbersFrom text from) (sym eq ∙ not-true q e) after-start
-              where
-                by : (x : Option (List ℕ)) → readable x ≡ false → inputOf text ≡ withNumbers (t .ns) (p .ns) i x → unreadableText ≡ printed text
-                by none f g = unclear-text text g
-                by (some ns) f g = absurd (true≢false f)
-
-            pub whole : not q ≡ false → {old last : List ℕ} {s : ℕ} → Judges text from (take c tLast) (take d pLast) i old last s
-                → Puts (printed text) old 0 last s
-            unfolding printed told
-            whole e {old} {last} {s} g = by (numbersFrom text from) refl (sym eq ∙ not-false q e)
-              where
-                by : (x : Option (List ℕ)) → numbersFrom text from ≡ x → readable x ≡ true → Puts (told (inputOf text)) old 0 last s
-                by none h f = absurd (false≢true f)
-                by (some ns) h f =
-                    let y = front-words (t .ns) tOld (t .leaves) (t .size) in
-                    let z = front-words (p .ns) pOld (p .leaves) (p .size) in
-                    let same : inputOf text ≡ withNumbers (t .ns) (p .ns) i (some ns) = after-start ∙ ap (withNumbers (t .ns) (p .ns) i) h in
-                    rw (same, ← y, ← z) (g .print ns h)
+    pub some-numbers : not b ≡ false → {old last : List ℕ} {s : ℕ} → Judges text from t p i old last s
+        → Puts (told (withStart text t p (oneAt text at))) old 0 last s
+    unfolding told
+    some-numbers f {old} {last} {s} g = by (numbersFrom text from) refl (sym each ∙ not-false b f)
+      where
+        by : (x : Option (List ℕ)) → numbersFrom text from ≡ x → readable x ≡ true → Puts (told (withStart text t p (oneAt text at))) old 0 last s
+        by none h z = absurd (false≢true z)
+        by (some ns) h z = rw (from-start h) (g .print ns h)

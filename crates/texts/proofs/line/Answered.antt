@@ -1,6 +1,7 @@
 -- What is known of a reading and of a line that was read, by the answer.
 --   readable-not, within-back       an unreadable line has no numbers; those within the room are the line's
 --   ReadNumbers, read-numbers       the answer Numbers: these numbers stand in the line and at the front
+--   read-within, read-front         they are within the room, and those that are read there
 --   read-unreadable                 the answer Unreadable: nothing has changed
 -- Assumes nothing.
 use mathlib.Core.Path.{_≡_, refl, sym, ap, _∙_}
@@ -9,7 +10,8 @@ use mathlib.Core.List.{List, _++_}
 use Prim.Native.Nat.{ℕ, _≤_}
 use native.Mathlib.Omega.{arith}
 use lib.Dec.{leb}
-use lib.ListN.{length, drop}
+use lib.ListN.{length, take, drop}
+use lib.Seq.{take-append-seam}
 use borrow.Author.Tests.{leb-true, le-leb}
 use Rattle.texts.specs.Line.{Reading, numbers, unreadable, lineAt, within, answer, stored, ReadLine}
 use Rattle.texts.specs.declared.line.Line.{Line}
@@ -28,6 +30,9 @@ within-back room unreadable e = absurd (readable-not e)
 
 pub within-room : (ns : List ℕ) (next : ℕ) {room : ℕ} → length ns ≤ room → within room (numbers ns next) ≡ numbers ns next
 within-room ns next {room} l = rw (le-leb (length ns) room l)
+
+front : (ns old : List ℕ) {last : List ℕ} {count : ℕ} → last ≡ ns ++ drop count old → length ns ≡ count → take count last ≡ ns
+front ns old e s = rw (e, ← s) (take-append-seam ns (drop (length ns) old))
 
 pub record ReadNumbers (text : List ℕ) (at : ℕ) (old last : List ℕ) (count next : ℕ) : Type 0 where
   pub ns : List ℕ
@@ -48,6 +53,15 @@ module _ {text : List ℕ} {at : ℕ} {old last : List ℕ} {r : Line} (k : Read
           let b = within-back (length old) (lineAt text at) t in
           record { ns = ns; is = b .0 ∙ ap (numbers ns) there; size = size; room = rw size at (b .1); leaves = rw size at s }
       by unreadable t f s = let z : _≡_ {A = ℕ} 0 1 = cc in absurd (omega arith)
+
+  module _ {count next : ℕ} (e : r ≡ Numbers count next) where
+    pub read-within : within (length old) (lineAt text at) ≡ numbers (read-numbers e .ns) next
+    read-within =
+        let n = read-numbers e in
+        ap (within (length old)) (n .is) ∙ within-room (n .ns) next (omega (arith, n .size, n .room))
+
+    pub read-front : take count last ≡ read-numbers e .ns
+    read-front = let n = read-numbers e in front (n .ns) old (n .leaves) (n .size)
 
   pub read-unreadable : r ≡ Unreadable → (within (length old) (lineAt text at) ≡ unreadable) × (last ≡ old)
   read-unreadable e = by (within (length old) (lineAt text at)) refl (sym (k .answers) ∙ e) (k .leaves)

@@ -12,7 +12,9 @@ end-line-spec =
     (λ c κs. search needs)
     (λ c. search needs)
     (λ c κs. search needs)
-    (λ c. end-changed _ _ (c .before .before .before .before .changed-from .ensures) (c .before .before .before .if1 .taken) (c .put-text .ensures))
+    (λ c. let at-if1 = c .before .before .before in let at-changed-from = at-if1 .before in
+    end-changed _ _ (at-changed-from .changed-from .ensures) (at-if1 .if1 .taken) (c .put-text .ensures))
     (λ c. search needs)
     (λ c κs. search needs)
-    (λ c. end-kept _ _ (c .before .before .before .before .changed-from .ensures) (c .before .before .before .if1 .left) (c .put-text2 .ensures)))
+    (λ c. let at-if1 = c .before .before .before in let at-changed-from = at-if1 .before in
+    end-kept _ _ (at-changed-from .changed-from .ensures) (at-if1 .if1 .left) (c .put-text2 .ensures)))

@@ -18,5 +18,5 @@ item-line-spec =
     (λ c. search needs)
     (λ c κs. search needs)
     (λ c. let at-put-number = c .before .before .before in let at-put-text = at-put-number .before .before in
-    let at-number = at-put-text .before .before .before in
-    at-number .number .ensures then at-put-text .put-text .ensures then at-put-number .put-number .ensures then c .put-text2 .ensures))
+    let at-number = at-put-text .before .before .before in at-number .number .ensures then at-put-text .put-text .ensures then at-put-number .put-number
+    .ensures then c .put-text2 .ensures))

@@ -20,5 +20,5 @@ listed-line-spec =
     (λ c κs. search needs)
     (λ c κs. search needs)
     (λ c. let at-put-numbers = c .before .before in let at-put-text = at-put-numbers .before .before .before in
-    let at-put-number = at-put-text .before .before .before in
-    at-put-number .put-number .ensures then at-put-text .put-text .ensures then at-put-numbers .put-numbers .ensures then c .end-line .ensures))
+    let at-put-number = at-put-text .before .before .before in at-put-number .put-number .ensures then at-put-text .put-text .ensures then at-put-numbers
+    .put-numbers .ensures then c .end-line .ensures))

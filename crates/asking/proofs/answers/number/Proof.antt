@@ -14,4 +14,4 @@ number-spec =
     (λ c. search needs)
     (λ c κs. search needs)
     (λ c κs. search needs)
-    (λ c. c .before .before .put-text .ensures then c .put-number .ensures))
+    (λ c. let at-put-text = c .before .before in at-put-text .put-text .ensures then c .put-number .ensures))

@@ -14,4 +14,4 @@ number-line-spec =
     (λ c κs. search needs)
     (λ c. search needs)
     (λ c κs. search needs)
-    (λ c. c .before .before .before .number .ensures then c .put-text .ensures))
+    (λ c. let at-number = c .before .before .before in at-number .number .ensures then c .put-text .ensures))

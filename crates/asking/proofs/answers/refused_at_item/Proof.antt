@@ -17,5 +17,5 @@ refused-at-item-spec =
     (λ c κs. search needs)
     (λ c κs. search needs)
     (λ c. let at-put-number = c .before .before in let at-put-text = at-put-number .before .before in
-    let at-refused = at-put-text .before .before .before in
-    at-refused .refused .ensures then at-put-text .put-text .ensures then at-put-number .put-number .ensures then c .end-line .ensures))
+    let at-refused = at-put-text .before .before .before in at-refused .refused .ensures then at-put-text .put-text .ensures then at-put-number .put-number
+    .ensures then c .end-line .ensures))

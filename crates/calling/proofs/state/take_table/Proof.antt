@@ -29,8 +29,8 @@ take-table-spec =
     (λ c κs. search needs)
     (λ c. let at-enum-told2 = c .before .before .before in let at-numbers-at2 = at-enum-told2 .before .before in
     let at-numbers-at = at-numbers-at2 .before .before .before .before .before in let at-after2 = at-numbers-at .before .before in
-    let at-after = at-after2 .before in
-    table-half (at-after .after .ensures) (at-after2 .after2 .ensures) (omega arith) (at-numbers-at .numbers-at .ensures) (omega arith)
+    let at-after = at-after2 .before in table-half (at-after .after .ensures) (at-after2 .after2 .ensures) (omega arith) (at-numbers-at .numbers-at
+    .ensures) (omega arith)
     (at-numbers-at2 .numbers-at2 .ensures) (at-enum-told2 .enum-told2 .given .1) (c .without-table2 .ensures) (c .before .unreadable2 .ensures))
     (λ c. let at-numbers-at2 = c .before .before .before in let at-table-words = at-numbers-at2 .before .before .before in
     let at-numbers-at = at-table-words .before .before in let at-after2 = at-numbers-at .before .before in let at-after = at-after2 .before in

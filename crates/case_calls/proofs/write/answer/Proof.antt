@@ -1,31 +1,48 @@
--- `case_calls::write::answer` prints what `write` answers, and that the other words are as they were.
+-- `case_calls::write::answer` makes the call of one number, with as much of the buffer as its line says.
 -- Assumes nothing.
 use borrow.Author.Needs.{needs}
 use native.Mathlib.Omega.{arith}
-use Rattle.cases.proofs.Counted.{written-fits}
-use Rattle.texts.proofs.page.Putting.{_then_}
-use Rattle.case_calls.proofs.Writing.{prints-done, prints-refused}
+use lib.ListN.{length-take}
+use lib.Seq.{length-take-le}
+use mathlib.Core.Path.{_∙_}
+use Rattle.texts.proofs.page.Putting.{told}
+use Rattle.asking.proofs.Taking.{no-row, row-fits, room-within, row-text}
+use Rattle.case_calls.specs.Write.{writeCall}
+use Rattle.case_calls.proofs.Writing.{one-not, one-text}
 use Rattle.case_calls.proofs.write.answer.Statement.{statement}
 use Rattle.case_calls.proofs.write.answer.Tie as tie
 
 pub answer-spec : {M : Type 1} → statement M
+unfolding writeCall
 answer-spec =
     tie.close
     (tie.spec
     (λ c κs. search needs)
-    (λ c κs. search needs)
     (λ c. search needs)
-    (λ c κs. let at-count = c .before .before .before in let at-cells2 = at-count .before .before .before in let at-write = at-cells2 .before in
-    omega (arith, written-fits (at-write .write .ensures) _ (at-count .count .given .1), at-cells2 .cells2 .given))
     (λ c. search needs)
     (λ c κs. search needs)
+    (λ c. let at-enum-told = c .before .before in let at-take-row = at-enum-told .before .before in
+    told (no-row (at-take-row .take-row .ensures) _ (at-enum-told .enum-told .given .1)) (c .unreadable .ensures))
+    (λ c. let at-start = c .before .before .before in let at-take-row = at-start .before .before in
+    row-fits (at-take-row .take-row .ensures) (at-start .start .given .1) .0)
+    (λ c. let at-start = c .before .before .before in let at-take-row = at-start .before .before in
+    omega (arith, row-fits (at-take-row .take-row .ensures) (at-start .start .given .1)))
+    (λ c. let at-start = c .before .before .before in let at-take-row = at-start .before .before in
+    omega (arith, row-fits (at-take-row .take-row .ensures) (at-start .start .given .1), c .words2 .given))
+    (λ c κs. search needs)
+    (λ c. let at-if1 = c .before .before in let at-start = at-if1 .before .before .before .before .before in let at-take-row = at-start .before .before in
+    told (one-not _ _ _ _ (at-if1 .if1 .taken) ∙ row-text (at-take-row .take-row .ensures) (at-start .start .given .1) _) (c .unreadable2 .ensures))
+    (λ c. search needs)
+    (λ c. let at-start = c .before .before .before .before .before .before in let at-take-row = at-start .before .before in
+    let at-pre = at-take-row .before .before .before .before .before .before in
+    omega (arith, row-fits (at-take-row .take-row .ensures) (at-start .start .given .1), at-pre .pre))
+    (λ c. let at-start = c .before .before .before .before .before .before .before in let at-take-row = at-start .before .before in
+    let at-pre = at-take-row .before .before .before .before .before .before in
+    simp length-take (omega (arith, row-fits (at-take-row .take-row .ensures) (at-start .start .given .1), at-pre .pre)))
     (λ c κs. search needs)
     (λ c. search needs)
-    (λ c. let at-count = c .before .before .before .before in let at-write = at-count .before .before .before .before in
-    let at-fill = at-write .before .before .before .before in
-    prints-done _ (at-fill .fill .ensures) (at-write .write .ensures) (at-count .count .given .1) (c .listed-line .ensures))
-    (λ c. search needs)
-    (λ c. let at-refused = c .before .before .before in let at-refusal = at-refused .before .before .before in
-    let at-write = at-refusal .before .before .before .before in let at-fill = at-write .before .before .before .before in
-    prints-refused _ (at-fill .fill .ensures) (at-write .write .ensures) (at-refusal .refusal .given .1)
-    (at-refused .refused .ensures then c .end-line .ensures)))
+    (λ c. let at-call = c .before .before in let at-if1 = at-call .before .before .before .before in
+    let at-start = at-if1 .before .before .before .before .before in let at-take-row = at-start .before .before in
+    let at-pre = at-take-row .before .before .before .before .before .before in
+    told (one-text _ _ _ _ (at-if1 .if1 .left) ∙ row-text (at-take-row .take-row .ensures) (at-start .start .given .1) _) (rw (length-take-le _ _
+    (room-within (at-take-row .take-row .ensures) (at-start .start .given .1) (at-pre .pre))) at (at-call .call .ensures .puts))))

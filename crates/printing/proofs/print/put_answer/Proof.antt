@@ -15,9 +15,8 @@ put-answer-spec =
     (λ c. search needs)
     (λ c κs. search needs)
     (λ c. search needs)
+    (λ c. let at-write = c .before .before .before .before in omega (arith, written-fits (at-write .write .ensures) _ (c .before .count .given .1)))
     (λ c. let at-count = c .before .before in let at-write = at-count .before .before .before in
-    omega (arith, written-fits (at-write .write .ensures) _ (at-count .count .given .1)))
-    (λ c. let at-count = c .before .before .before in let at-write = at-count .before .before .before in
     simp length-take (omega (arith, written-fits (at-write .write .ensures) _ (at-count .count .given .1))))
     (λ c κs. search needs)
     (λ c. search needs)

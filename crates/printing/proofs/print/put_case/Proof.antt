@@ -18,5 +18,5 @@ put-case-spec =
     (λ c κs. search needs)
     (λ c κs. search needs)
     (λ c. let at-put-text2 = c .before .before in let at-put-number = at-put-text2 .before .before .before in
-    let at-put-text = at-put-number .before .before in
-    at-put-text .put-text .ensures then at-put-number .put-number .ensures then at-put-text2 .put-text2 .ensures then c .put-line .ensures))
+    let at-put-text = at-put-number .before .before in at-put-text .put-text .ensures then at-put-number .put-number .ensures then at-put-text2 .put-text2
+    .ensures then c .put-line .ensures))

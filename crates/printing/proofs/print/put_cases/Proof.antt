@@ -9,10 +9,10 @@ use Rattle.printing.proofs.print.put_cases.Statement.{statement}
 use Rattle.printing.proofs.print.put_cases.Tie as tie
 
 abbrev Inv-loop : tie.InvT-loop
-Inv-loop text from table pool first page₀ used₀ at₀ page used at = Going text from table pool first page₀ page used at
+Inv-loop table pool first text from page₀ used₀ at₀ page used at = Going text from table pool first page₀ page used at
 
 abbrev μ-loop : tie.MeasureT-loop
-μ-loop text from table pool first page₀ used₀ at₀ page used at = length text - at
+μ-loop table pool first text from page₀ used₀ at₀ page used at = length text - at
 
 pub put-cases-spec : {M : Type 1} → statement M
 put-cases-spec =

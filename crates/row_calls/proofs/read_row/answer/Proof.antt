@@ -1,28 +1,41 @@
--- `row_calls::read_row::answer` prints what `read_row` answers, and that the other words are as they were.
+-- `row_calls::read_row::answer` makes the call of the row that its line has, with as much of the buffer as it says.
 -- Assumes nothing.
 use borrow.Author.Needs.{needs}
 use native.Mathlib.Omega.{arith}
-use Rattle.rows.proofs.CountedRows.{got-fits}
-use Rattle.row_calls.proofs.Rows.{read-done, read-refused}
+use lib.ListN.{length-take}
+use lib.Seq.{length-take-le}
+use Rattle.texts.proofs.page.Putting.{told}
+use Rattle.asking.proofs.Taking.{no-row, row-fits, room-within, row-text}
+use Rattle.row_calls.specs.ReadRow.{readRowCall}
 use Rattle.row_calls.proofs.read_row.answer.Statement.{statement}
 use Rattle.row_calls.proofs.read_row.answer.Tie as tie
 
 pub answer-spec : {M : Type 1} → statement M
+unfolding readRowCall
 answer-spec =
     tie.close
     (tie.spec
     (λ c κs. search needs)
-    (λ c κs. search needs)
     (λ c. search needs)
-    (λ c κs. let at-items = c .before .before .before in let at-numbers2 = at-items .before .before .before in let at-read-row = at-numbers2 .before in
-    omega (arith, got-fits (at-read-row .read-row .ensures) (at-items .items .given .1), at-numbers2 .numbers2 .given))
     (λ c. search needs)
     (λ c κs. search needs)
+    (λ c. let at-enum-told = c .before .before in let at-take-row = at-enum-told .before .before in
+    told (no-row (at-take-row .take-row .ensures) _ (at-enum-told .enum-told .given .1)) (c .unreadable .ensures))
+    (λ c. let at-start = c .before .before .before in let at-take-row = at-start .before .before in
+    row-fits (at-take-row .take-row .ensures) (at-start .start .given .1) .0)
+    (λ c. let at-start = c .before .before .before in let at-take-row = at-start .before .before in
+    omega (arith, row-fits (at-take-row .take-row .ensures) (at-start .start .given .1)))
+    (λ c. let at-start = c .before .before .before in let at-take-row = at-start .before .before in
+    omega (arith, row-fits (at-take-row .take-row .ensures) (at-start .start .given .1), c .words2 .given))
+    (λ c. let at-start = c .before .before .before .before in let at-take-row = at-start .before .before in
+    let at-pre = at-take-row .before .before .before .before .before .before in
+    room-within (at-take-row .take-row .ensures) (at-start .start .given .1) (at-pre .pre))
+    (λ c. let at-start = c .before .before .before .before .before in let at-take-row = at-start .before .before in
+    let at-pre = at-take-row .before .before .before .before .before .before in
+    simp length-take (omega (arith, room-within (at-take-row .take-row .ensures) (at-start .start .given .1) (at-pre .pre))))
+    (λ c κs. search needs)
     (λ c. search needs)
-    (λ c. let at-items = c .before .before .before .before in let at-read-row = at-items .before .before .before .before in
-    let at-fill = at-read-row .before .before .before .before in
-    read-done _ (at-fill .fill .ensures) (at-read-row .read-row .ensures) (at-items .items .given .1) (c .done-line .ensures))
-    (λ c. search needs)
-    (λ c. let at-refusal = c .before .before .before .before in let at-read-row = at-refusal .before .before .before .before in
-    let at-fill = at-read-row .before .before .before .before in
-    read-refused _ (at-fill .fill .ensures) (at-read-row .read-row .ensures) (at-refusal .refusal .given .1) (c .refused-at-item .ensures)))
+    (λ c. let at-call = c .before .before in let at-start = at-call .before .before .before .before .before .before .before in
+    let at-take-row = at-start .before .before in let at-pre = at-take-row .before .before .before .before .before .before in
+    told (row-text (at-take-row .take-row .ensures) (at-start .start .given .1) _) (rw (length-take-le _ _ (room-within (at-take-row .take-row .ensures)
+    (at-start .start .given .1) (at-pre .pre))) at (at-call .call .ensures .puts))))

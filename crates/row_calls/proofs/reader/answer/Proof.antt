@@ -1,39 +1,30 @@
--- `row_calls::reader::answer` ends: each item moves the place on, and within the row.
+-- `row_calls::reader::answer` asks for the cases of the row that its line has.
 -- Assumes nothing.
 use borrow.Author.Needs.{needs}
-use Prim.Native.Nat.{_-_}
-use lib.ListN.{length}
-use Rattle.row_calls.proofs.Asking.{Asking, ask-none, nearer, ask-more, ask-end, ask-refused}
+use native.Mathlib.Omega.{arith}
+use Rattle.texts.proofs.page.Putting.{told}
+use Rattle.asking.proofs.Taking.{no-cells, cells-fit, cells-text}
+use Rattle.row_calls.specs.Reader.{readerCall}
 use Rattle.row_calls.proofs.reader.answer.Statement.{statement}
 use Rattle.row_calls.proofs.reader.answer.Tie as tie
-use Rattle.rows.proofs.Values.{strode-is}
-
-abbrev Inv-loop : tie.InvT-loop
-Inv-loop table pool start row page₀ used waiting₀ at₀ t15 page waiting at = Asking table pool start row page₀ used page waiting at
-
-abbrev μ-loop : tie.MeasureT-loop
-μ-loop table pool start row page₀ used waiting₀ at₀ t15 page waiting at = length row - at
 
 pub answer-spec : {M : Type 1} → statement M
+unfolding readerCall
 answer-spec =
     tie.close
     (tie.spec
-    Inv-loop
-    μ-loop
-    (λ c. ask-none)
     (λ c κs. search needs)
-    (λ c. search needs)
-    (λ c κs. search needs)
-    (λ c. let at-handed = c .before .before .before in let at-read-at = at-handed .before .before in let at-loop = at-read-at .before in
-    nearer (at-loop .loop .inv) (strode-is _ _ _ _ _ (at-read-at .read-at .ensures)) (at-handed .handed .given .1))
-    (λ c. let at-handed = c .before .before .before in let at-read-at = at-handed .before .before in let at-loop = at-read-at .before in
-    ask-more (at-loop .loop .inv) (strode-is _ _ _ _ _ (at-read-at .read-at .ensures)) (at-handed .handed .given .1) (c .item-line .ensures))
     (λ c. search needs)
     (λ c. search needs)
     (λ c κs. search needs)
-    (λ c. let at-enum-told = c .before .before .before in let at-read-at = at-enum-told .before .before in let at-loop = at-read-at .before in
-    ask-end (at-loop .loop .inv) (strode-is _ _ _ _ _ (at-read-at .read-at .ensures)) (at-enum-told .enum-told .given .1) (c .put-text .ensures))
-    (λ c. search needs)
+    (λ c. let at-enum-told = c .before .before in let at-take-cells = at-enum-told .before .before in
+    told (no-cells (at-take-cells .take-cells .ensures) _ (at-enum-told .enum-told .given .1)) (c .unreadable .ensures))
+    (λ c. let at-start = c .before .before .before in let at-take-cells = at-start .before .before in
+    cells-fit (at-take-cells .take-cells .ensures) (at-start .start .given .1) .0)
+    (λ c. let at-start = c .before .before .before in let at-take-cells = at-start .before .before in
+    omega (arith, cells-fit (at-take-cells .take-cells .ensures) (at-start .start .given .1)))
+    (λ c. let at-start = c .before .before .before in let at-take-cells = at-start .before .before in
+    omega (arith, cells-fit (at-take-cells .take-cells .ensures) (at-start .start .given .1), c .words2 .given))
     (λ c κs. search needs)
-    (λ c. let at-handed2 = c .before .before .before in let at-read-at = at-handed2 .before .before in let at-loop = at-read-at .before in
-    ask-refused (at-loop .loop .inv) (strode-is _ _ _ _ _ (at-read-at .read-at .ensures)) (at-handed2 .handed2 .given .1) (c .refused-line .ensures)))
+    (λ c. let at-start = c .before .before .before .before .before .before in let at-take-cells = at-start .before .before in
+    told (cells-text (at-take-cells .take-cells .ensures) (at-start .start .given .1) _) (c .call .ensures)))

@@ -21,5 +21,5 @@ put-line-spec =
     (λ c. search needs)
     (λ c κs. search needs)
     (λ c. let at-put-numbers = c .before .before .before in let at-put-number = at-put-numbers .before .before .before in
-    let at-if1 = at-put-number .before .before .before in
-    line-some _ (at-if1 .if1 .left) (at-put-number .put-number .ensures) (at-put-numbers .put-numbers .ensures) (c .put-text2 .ensures)))
+    let at-if1 = at-put-number .before .before .before in line-some _ (at-if1 .if1 .left) (at-put-number .put-number .ensures) (at-put-numbers .put-numbers
+    .ensures) (c .put-text2 .ensures)))

@@ -14,8 +14,9 @@ put-number-spec =
     (tie.spec
     (λ c. search needs)
     (λ c κs. omega (arith, decimal-size (c .before .args .n) (omega arith)))
-    (λ c. let at-spell = c .before .before in omega (arith, at-spell .spell .ensures .begins))
+    (λ c. omega (arith, c .before .spell .ensures .begins))
     (λ c. search needs)
-    (λ c. let at-spell = c .before .before .before in omega (arith, spelled-same (at-spell .spell .ensures)))
+    (λ c. let at-spell = c .before .before in omega (arith, spelled-same (at-spell .spell .ensures)))
     (λ c κs. search needs)
-    (λ c. let at-spell = c .before .before .before .before .before in rw (spelled-text (at-spell .spell .ensures) {size = 20} refl) at (c .put-text .ensures)))
+    (λ c. let at-spell = c .before .before .before .before .before in
+    rw (spelled-text (at-spell .spell .ensures) {size = 20} refl) at (c .put-text .ensures)))

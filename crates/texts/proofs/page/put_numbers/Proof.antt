@@ -9,10 +9,10 @@ use Rattle.texts.proofs.page.put_numbers.Statement.{statement}
 use Rattle.texts.proofs.page.put_numbers.Tie as tie
 
 abbrev Inv-loop : tie.InvT-loop
-Inv-loop page₀ used numbers waiting₀ i₀ t7 page waiting i = Listing numbers page₀ used page waiting i
+Inv-loop numbers page₀ used waiting₀ i₀ t7 page waiting i = Listing numbers page₀ used page waiting i
 
 abbrev μ-loop : tie.MeasureT-loop
-μ-loop page₀ used numbers waiting₀ i₀ t7 page waiting i = length numbers - i
+μ-loop numbers page₀ used waiting₀ i₀ t7 page waiting i = length numbers - i
 
 pub put-numbers-spec : {M : Type 1} → statement M
 put-numbers-spec =

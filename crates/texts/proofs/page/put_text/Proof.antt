@@ -9,10 +9,10 @@ use Rattle.texts.proofs.page.put_text.Statement.{statement}
 use Rattle.texts.proofs.page.put_text.Tie as tie
 
 abbrev Inv-loop : tie.InvT-loop
-Inv-loop page₀ used text waiting₀ i₀ page waiting i = Putting text page₀ used page waiting i
+Inv-loop text page₀ used waiting₀ i₀ page waiting i = Putting text page₀ used page waiting i
 
 abbrev μ-loop : tie.MeasureT-loop
-μ-loop page₀ used text waiting₀ i₀ page waiting i = length text - i
+μ-loop text page₀ used waiting₀ i₀ page waiting i = length text - i
 
 pub put-text-spec : {M : Type 1} → statement M
 put-text-spec =
@@ -27,5 +27,6 @@ put-text-spec =
     (λ c. omega (arith, place-within _ (c .before .place .ensures)))
     (λ c. search needs)
     (λ c. omega arith)
-    (λ c. put-more (c .before .before .before .before .loop .inv) (c .before .before .before .loop-test .taken) (c .before .place .ensures))
+    (λ c. let at-loop-test = c .before .before .before in let at-loop = at-loop-test .before in
+    put-more (at-loop .loop .inv) (at-loop-test .loop-test .taken) (c .before .place .ensures))
     (λ c. put-all (c .before .loop .inv) (c .loop-test .left)))

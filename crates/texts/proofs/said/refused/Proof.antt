@@ -18,7 +18,7 @@ refused-spec =
     (λ c. search needs)
     (λ c κs. search needs)
     (λ c κs. search needs)
-    (λ c. let at-put-text2 = c .before .before in let at-put-number = at-put-text2 .before .before .before in let at-number-of = at-put-number .before in
-    let at-put-text = at-number-of .before .before in
+    (λ c. let at-put-text2 = c .before .before in let at-put-number = at-put-text2 .before .before .before in
+    let at-number-of = at-put-number .before .before in let at-put-text = at-number-of .before in
     at-put-text .put-text .ensures then rw (at-number-of .number-of .ensures) at (at-put-number .put-number .ensures) then
     at-put-text2 .put-text2 .ensures then c .put-number2 .ensures))

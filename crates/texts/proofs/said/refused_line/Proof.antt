@@ -14,4 +14,4 @@ refused-line-spec =
     (λ c κs. search needs)
     (λ c. search needs)
     (λ c κs. search needs)
-    (λ c. c .before .before .before .refused .ensures then c .put-text .ensures))
+    (λ c. let at-refused = c .before .before .before in at-refused .refused .ensures then c .put-text .ensures))

@@ -12,7 +12,7 @@ use lib.Dec.{eqb}
 use lib.ListN.{length, getD, drop, drop-of-length-le}
 use lib.Seq.{drop-cons}
 use borrow.Author.Tests.{eq-eqb, ne-eqb}
-use Rattle.calling.specs.Same.{same}
+use Rattle.asking.specs.Same.{same}
 
 and-not : (a : Bool) {b : Bool} → b ≡ false → (a && b) ≡ false
 and-not true e = e

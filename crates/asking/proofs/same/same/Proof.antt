@@ -1,12 +1,12 @@
--- `calling::line::same` compares byte by byte, where both have as many.
+-- `asking::same::same` compares byte by byte, where both have as many.
 -- Assumes nothing.
 use borrow.Author.Needs.{needs}
 use Prim.Native.Nat.{_-_}
 use native.Mathlib.Omega.{arith}
 use lib.ListN.{length}
-use Rattle.calling.proofs.Comparing.{same-long, Comparing, compare-none, compare-other, compare-more, compare-all}
-use Rattle.calling.proofs.line.same.Statement.{statement}
-use Rattle.calling.proofs.line.same.Tie as tie
+use Rattle.asking.proofs.Comparing.{same-long, Comparing, compare-none, compare-other, compare-more, compare-all}
+use Rattle.asking.proofs.same.same.Statement.{statement}
+use Rattle.asking.proofs.same.same.Tie as tie
 
 abbrev Inv-loop : tie.InvT-loop
 Inv-loop a b i₀ i = Comparing a b i

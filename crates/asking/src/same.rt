@@ -1,0 +1,19 @@
+// Texts that are compared.
+ghost use mathlib.Core.Path.{_≡_};
+ghost use Rattle.asking.specs.Same.{same as isSame};
+
+pub fn same(a: &[u8], b: &[u8]) -> bool
+    ensures { λ r. ⌜ r ≡ isSame (now (a .entry)) (now (b .entry)) ⌝ }
+{
+    if a.len() != b.len() {
+        return false;
+    }
+    let mut i = 0;
+    while i < a.len() {
+        if a[i] != b[i] {
+            return false;
+        }
+        i += 1;
+    }
+    true
+}
