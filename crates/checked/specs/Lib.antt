@@ -2,6 +2,5 @@
 pub mod Prepared
 pub mod Fits
 pub mod Kept
-pub mod Met
 pub mod Item
 pub mod Opening
