@@ -35,10 +35,10 @@ prepared-length t p plan e = record { is = rw e; ready = λ a. absurd (refused-n
 told : {t p plan : List ℕ} {v w : Verdict} → AllWeighed t p plan v → v ≡ w → WeighedBy t p plan w
 told {t} {p} {plan} a e = rw e at (a .is)
 
-module _ (t p : List ℕ) {plan : List ℕ} (whole : length t ≡ 3 * nodes t) (some : 1 ≤ nodes t) (few : nodes t ≤ 256) (pooled : length p ≤ 4096) {v : Verdict}
-    (a : AllWeighed t p plan v) where
+module _ {t p plan : List ℕ} {v : Verdict} (a : AllWeighed t p plan v)
+    (l : (length t ≡ 3 * nodes t) × (1 ≤ nodes t) × (nodes t ≤ 256) × (length p ≤ 4096)) where
   long : lengths t p ≡ true
-  long = rw (eq-eqb (length t) (3 * nodes t) whole, le-leb 1 (nodes t) some, le-leb (nodes t) 256 few, le-leb (length p) 4096 pooled)
+  long = rw (eq-eqb (length t) (3 * nodes t) (l .0), le-leb 1 (nodes t) (l .1), le-leb (nodes t) 256 (l .2), le-leb (length p) 4096 (l .3))
 
   pub prepared-fault : {r : Refusal} {k : ℕ} → v ≡ Refused r k → Prepared t p plan (Refused r k)
   unfolding verdict settled
@@ -52,14 +52,14 @@ module _ (t p : List ℕ) {plan : List ℕ} (whole : length t ≡ 3 * nodes t) (
     plans = told a e .1
 
     checked : Checked t p (sizeAt (sizes t p))
-    checked = checked-of t p passes whole few
+    checked = checked-of t p passes (l .0) (l .2)
 
     pub prepared-ready : Ready t p plan
     prepared-ready = record { checked = rw (plan-sizes plans) checked; long = plans .long }
 
     pub prepared-cycles : length plan ≤ 1024 → {w : Verdict} → w ≡ cycles t p (sizeIn plan) → Prepared t p plan w
     unfolding verdict settled
-    prepared-cycles l f = record {
+    prepared-cycles k f = record {
       is = rw (long, passes) (f ∙ ap (λ (z : ℕ → Size). cycles t p z) (plan-sizes plans));
-      ready = λ x. record { passes = passes; plans = plans; checked = checked; short = l; slight = pooled };
+      ready = λ x. record { passes = passes; plans = plans; checked = checked; short = k; slight = l .3 };
     }

@@ -1,7 +1,7 @@
 -- `cases::writing::write_with` opens, and writes one case.
 -- Assumes nothing.
 use borrow.Author.Needs.{needs}
-use Rattle.checked.proofs.Placing.{placed-long}
+use Rattle.checked.proofs.Fitting.{placed-long}
 use Rattle.cases.proofs.Calls.{wrote-refused, wrote-by}
 use Rattle.cases.proofs.writing.write_with.Statement.{statement}
 use Rattle.cases.proofs.writing.write_with.Tie as tie

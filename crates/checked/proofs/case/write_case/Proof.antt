@@ -2,7 +2,7 @@
 -- Assumes nothing.
 use borrow.Author.Needs.{needs}
 use native.Mathlib.Omega.{arith}
-use Rattle.checked.proofs.Placing.{settled-cells, settled-sure, placed, placed-not}
+use Rattle.checked.proofs.Fitting.{settled-cells, settled-sure, placed, placed-not}
 use Rattle.checked.proofs.case.write_case.Statement.{statement}
 use Rattle.checked.proofs.case.write_case.Tie as tie
 

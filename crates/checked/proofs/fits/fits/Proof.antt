@@ -14,45 +14,19 @@ pub fits-spec : {M : Type 1} → statement M
 fits-spec =
     tie.close
     (tie.spec
-    (λ c. let q = in-plan (c .before .before .before .pre) in omega (arith, q .0, q .1))
-    (λ c. let q = in-plan (c .before .before .before .pre) in omega (arith, q .0, q .1))
-    (λ c. let q = in-plan (c .before .before .before .pre) in omega (arith, q .0, q .1))
-    (λ c. let q = in-plan (c .before .before .before .before .pre) in omega (arith, q .0, q .1))
+    (λ c. let at-pre = c .before .before .before in let q = in-plan (at-pre .pre) in omega (arith, q .0, q .1))
+    (λ c. let at-pre = c .before .before .before in let q = in-plan (at-pre .pre) in omega (arith, q .0, q .1))
+    (λ c. let at-pre = c .before .before .before in let q = in-plan (at-pre .pre) in omega (arith, q .0, q .1))
+    (λ c. let at-pre = c .before .before .before .before in let q = in-plan (at-pre .pre) in omega (arith, q .0, q .1))
     (λ c κs. search needs)
     (λ c κs. search needs)
-    (λ c. omega (arith, c .before .before .room-for .ensures))
-    (λ c. lent-long (c .before .before .before .before .before .before .before .before .before .before .args .out .now)
-    (c .before .before .before .room-for .ensures))
-    (λ c κs. let h = c .before .before .before .before .before .before .before .before .before .before .pre in
-    let a = c .before .before .before .before .before .asked .ensures in let y = c .before .before .before .before .if1 .taken in (
-      (visits-of h _ 0 a y, record { is = inl refl }),
-      (
-        omega (arith, may h _ 0 a y .small),
-        omega arith,
-        omega arith,
-        omega (
-          arith,
-          lent-long (c .before .before .before .before .before .before .before .before .before .before .args .out .now)
-              (c .before .before .before .room-for .ensures),
-          c .before .before .before .room-for .ensures,
-        ),
-      ),
+    (λ c. let at-room-for = c .before .before in omega (arith, at-room-for .room-for .ensures))
+    (λ c. let at-room-for = c .before .before .before in let at-args = at-room-for .before .before .before .before .before .before .before in lent-long (at-args .args .out .now) (at-room-for .room-for .ensures))
+    (λ c κs. let at-room-for = c .before .before .before in let at-if1 = at-room-for .before in let at-asked = at-if1 .before in let at-args = at-asked .before .before .before .before .before in let a = at-asked .asked .ensures in let y = at-if1 .if1 .taken in let l = lent-long (at-args .args .out .now) (at-room-for .room-for .ensures) in (
+      (visits-of (at-args .pre) _ 0 a y, record { is = inl refl }),
+      (omega (arith, may (at-args .pre) _ 0 a y .small), omega arith, omega arith, omega (arith, l, at-room-for .room-for .ensures)),
     ))
-    (λ c κs. λ l. omega (
-      arith,
-      left-within _ (c .before .before .lay .ensures .is) l,
-      lent-long
-          (c .before .before .before .before .before .before .before .before .before .before .before .before .before .args .out .now)
-          (c .before .before .before .before .before .before .room-for .ensures),
-    ))
-    (λ c. fits-walk (c .before .before .before .before .before .before .before .before .before .before .before .before .before .before .pre) _
-    (c .before .before .before .before .before .before .before .before .before .asked .ensures)
-    (c .before .before .before .before .before .before .before .before .before .before .before .before .before .before .args .out .now)
-    (c .before .before .before .before .before .before .before .before .if1 .taken) (c .before .before .before .lay .result)
-    (c .before .before .before .before .before .before .before .room-for .ensures) (c .fit-of .ensures) (c .before .before .before .lay .ensures) refl .long)
-    (λ c. fits-walk (c .before .before .before .before .before .before .before .before .before .before .before .before .before .before .pre) _
-    (c .before .before .before .before .before .before .before .before .before .asked .ensures)
-    (c .before .before .before .before .before .before .before .before .before .before .before .before .before .before .args .out .now)
-    (c .before .before .before .before .before .before .before .before .if1 .taken) (c .before .before .before .lay .result)
-    (c .before .before .before .before .before .before .before .room-for .ensures) (c .fit-of .ensures) (c .before .before .before .lay .ensures) refl)
-    (λ c. fits-12 (c .before .before .before .before .before .before .pre) _ (c .before .asked .ensures) _ (c .if1 .left)))
+    (λ c κs. let at-lay = c .before .before in let at-room-for = at-lay .before .before .before .before in let at-args = at-room-for .before .before .before .before .before .before .before in λ l. omega (arith, left-within _ (at-lay .lay .ensures .is) l, lent-long (at-args .args .out .now) (at-room-for .room-for .ensures)))
+    (λ c. let at-lay = c .before .before .before in let at-room-for = at-lay .before .before .before .before in let at-if1 = at-room-for .before in let at-asked = at-if1 .before in let at-pre = at-asked .before .before .before .before .before in fits-walk (at-pre .pre) _ (at-asked .asked .ensures) (at-pre .args .out .now) (at-if1 .if1 .taken) (at-lay .lay .result) (at-room-for .room-for .ensures) (c .fit-of .ensures) (at-lay .lay .ensures) refl .long)
+    (λ c. let at-lay = c .before .before .before in let at-room-for = at-lay .before .before .before .before in let at-if1 = at-room-for .before in let at-asked = at-if1 .before in let at-pre = at-asked .before .before .before .before .before in fits-walk (at-pre .pre) _ (at-asked .asked .ensures) (at-pre .args .out .now) (at-if1 .if1 .taken) (at-lay .lay .result) (at-room-for .room-for .ensures) (c .fit-of .ensures) (at-lay .lay .ensures) refl)
+    (λ c. let at-pre = c .before .before .before .before .before .before in fits-12 (at-pre .pre) _ (c .before .asked .ensures) _ (c .if1 .left)))
