@@ -17,7 +17,7 @@ use Rattle.checked.specs.declared.item.Item.the-variants.{Number as Reads, Not 
 use Rattle.checked.specs.declared.fits.Fit.{Fit}
 use Rattle.checked.specs.declared.fits.Fit.the-variants.{Cells, Not}
 use Rattle.checked.proofs.Standing.{stood}
-use Rattle.cases.specs.Read.{found, reads}
+use Rattle.cases.specs.Read.{found, reads, readOf, readSays}
 use Rattle.cases.specs.Write.{wrote, writes, leaves, written, writeSays, Wrote}
 use Rattle.cases.specs.declared.reading.Found.{Found}
 use Rattle.cases.specs.declared.reading.Found.the-variants.{Number, Refused as Not-found}
@@ -33,13 +33,13 @@ found-is (Reads n next) w e = rw (stood w e .0)
 found-is (Not-read r) w e = rw (stood w e)
 
 module _ {t p plan : List ℕ} {i : ℕ} {v : Verdict} (h : Opens t p plan i v) (cs : List ℕ) where
-  pub read-refused : {r : Refusal} {k : ℕ} → v ≡ Refuses r k → Not-found r k ≡ reads t p i cs
-  unfolding reads
+  pub read-refused : {r : Refusal} {k : ℕ} → v ≡ Refuses r k → readOf (Not-found r k) ≡ readSays t p i cs
+  unfolding reads readSays
   read-refused e = rw (← h .is, e)
 
-  pub read-by : v ≡ Accepted → {r : Item} → Stood (whole (ruleIn plan p) i cs) cs 0 r → (k : Item) → r ≡ k → found-in k ≡ reads t p i cs
-  unfolding reads
-  read-by e w k q = found-is k w q ∙ rw (← h .is, e, h .ready e .rules)
+  pub read-by : v ≡ Accepted → {r : Item} → Stood (whole (ruleIn plan p) i cs) cs 0 r → (k : Item) → r ≡ k → readOf (found-in k) ≡ readSays t p i cs
+  unfolding reads readSays
+  read-by e w k q = ap readOf (found-is k w q ∙ rw (← h .is, e, h .ready e .rules))
 
 -- ---- write
 leaves-is : (f : Fit) (cs old : List ℕ) → places f cs old ≡ leaves (wrote f) cs old

@@ -5,7 +5,7 @@
 --   fitted-cells   the cells are counted, so the number may be asked for, and its walk meets cells only
 -- Assumes nothing.
 use mathlib.Core.Path.{_≡_, refl, sym, ap}
-use mathlib.Core.Bool.{Bool, true, false}
+use mathlib.Core.Bool.{true}
 use mathlib.Core.List.{List, [], _∷_, map}
 use Prim.Native.Nat.{ℕ, zero, suc, _-_, _^_, _≤_}
 use native.Mathlib.Nat.{not-suc-le-zero, le-of-suc-le-suc}
@@ -13,16 +13,14 @@ use native.Mathlib.Omega.{arith}
 use lib.ListN.{length}
 use lib.Dec.{ltb}
 use borrow.Author.Tests.{lt-ltb, ltb-true}
-use Rattle.numbers.specs.Pick.{pick}
 use Rattle.numbers.specs.Size.{Size, finite, endless}
-use Rattle.grammar.specs.declared.refusal.Refusal.the-variants.{NoSuchNumber}
 use Rattle.grammar.specs.Rule.{Rule}
 use Rattle.walk.specs.Walk.{Event, cell, deep, walk, cells, depth}
 use Rattle.walk.specs.Room.{RoomLeft, Left, tallied}
 use Rattle.walk.specs.Room.{TooDeep as Deep, NoRoom as Full}
 use Rattle.checked.specs.Fits.{asked, Asked, roomFor, outcome, fitted}
-use Rattle.checked.specs.declared.fits.Fit.the-variants.{Cells, Not}
-use Rattle.numbers.proofs.Tests.{and-left, and-right}
+use Rattle.checked.specs.declared.fits.Fit.the-variants.{Cells}
+use Rattle.numbers.proofs.Tests.{and-left, and-right, pick-by}
 use Rattle.walk.proofs.Rooms.{tally-count}
 
 pub is-asked : (s : Size) (n : ℕ) → Asked s n → asked s n ≡ true
@@ -70,15 +68,14 @@ module _ (g : ℕ → Rule) (i n room : ℕ) where
       let s : roomFor room - (roomFor room - length cs) ≡ length cs = omega arith in
       rw (is-asked (g i .size) n q, e, tallied-map (roomFor room) cs k, s)
 
-  pub fitted-cells : (k : ℕ) → fitted g i n room ≡ Cells k
-      → Asked (g i .size) n × (walk g depth 0 i n ≡ map cell (cells (walk g depth 0 i n))) × (length (cells (walk g depth 0 i n)) ≡ k) × (k ≤ roomFor room)
+  -- the number may be asked for, and its walk meets so many cells, and nothing else
+  abbrev pub Counts : ℕ → Type 0
+  Counts k = Asked (g i .size) n × (walk g depth 0 i n ≡ map cell (cells (walk g depth 0 i n))) × (length (cells (walk g depth 0 i n)) ≡ k) × (k ≤ roomFor room)
+
+  pub fitted-cells : (k : ℕ) → fitted g i n room ≡ Cells k → Counts k
   unfolding fitted
-  fitted-cells k e = by (asked (g i .size) n) refl e
-    where
-      by : (b : Bool) → asked (g i .size) n ≡ b → pick b (outcome (roomFor room) (tallied (roomFor room) (walk g depth 0 i n))) (Not NoSuchNumber) ≡ Cells k
-          → Asked (g i .size) n × (walk g depth 0 i n ≡ map cell (cells (walk g depth 0 i n))) × (length (cells (walk g depth 0 i n)) ≡ k) × (k ≤ roomFor room)
-      by true u v =
-          let (rest, f, s) = cells-left (roomFor room) k (tallied (roomFor room) (walk g depth 0 i n)) v in
-          let c = tally-count (roomFor room) (walk g depth 0 i n) f in
-          (was-asked (g i .size) n u, tallied-left (roomFor room) (walk g depth 0 i n) f, omega arith, omega arith)
-      by false u v = let z : _≡_ {A = ℕ} 0 1 = cc in absurd (omega arith)
+  fitted-cells k e = pick-by (λ f. f ≡ Cells k → Counts k) (asked (g i .size) n) (λ u v.
+      let (rest, f, s) = cells-left (roomFor room) k (tallied (roomFor room) (walk g depth 0 i n)) v in
+      let c = tally-count (roomFor room) (walk g depth 0 i n) f in
+      (was-asked (g i .size) n u, tallied-left (roomFor room) (walk g depth 0 i n) f, omega arith, omega arith))
+      (λ u v. let z : _≡_ {A = ℕ} 0 1 = cc in absurd (omega arith)) e

@@ -15,7 +15,7 @@ use Rattle.grammar.specs.Table.{nodes, lengths}
 use Rattle.grammar.specs.Sizes.{sizeAt, scan, passed, sizes}
 use Rattle.grammar.specs.Checked.{Checked}
 use Rattle.grammar.specs.Plan.{sizeIn, Planned, WeighedBy, AllWeighed, Ready}
-use Rattle.grammar.specs.Verdict.{cycles, settled, verdict}
+use Rattle.grammar.specs.Verdict.{cycles, settled, verdict, answer, checkSays}
 use Rattle.grammar.specs.declared.refusal.Refusal.{Refusal}
 use Rattle.grammar.specs.declared.refusal.Refusal.the-variants.{Length}
 use Rattle.grammar.specs.declared.refusal.Verdict.{Verdict}
@@ -28,8 +28,8 @@ pub refused-not : {r : Refusal} {k : ℕ} → Refused r k ≡ Accepted → ⊥
 refused-not e = let x : _≡_ {A = ℕ} 0 1 = cc in omega arith
 
 pub prepared-length : (t p plan : List ℕ) → lengths t p ≡ false → Prepared t p plan (Refused Length 0)
-unfolding verdict
-prepared-length t p plan e = record { is = rw e; ready = λ a. absurd (refused-not a) }
+unfolding verdict checkSays
+prepared-length t p plan e = record { says = rw e; ready = λ a. absurd (refused-not a) }
 
 -- what was found by the weighing, at the arm's constructor
 told : {t p plan : List ℕ} {v w : Verdict} → AllWeighed t p plan v → v ≡ w → WeighedBy t p plan w
@@ -41,8 +41,8 @@ module _ {t p plan : List ℕ} {v : Verdict} (a : AllWeighed t p plan v)
   long = rw (eq-eqb (length t) (3 * nodes t) (l .0), le-leb 1 (nodes t) (l .1), le-leb (nodes t) 256 (l .2), le-leb (length p) 4096 (l .3))
 
   pub prepared-fault : {r : Refusal} {k : ℕ} → v ≡ Refused r k → Prepared t p plan (Refused r k)
-  unfolding verdict settled
-  prepared-fault e = record { is = rw (long, told a e); ready = λ x. absurd (refused-not x) }
+  unfolding verdict settled checkSays
+  prepared-fault e = record { says = rw (long, told a e); ready = λ x. absurd (refused-not x) }
 
   module _ (e : v ≡ Accepted) where
     passes : scan t p (nodes t) ≡ passed (sizes t p)
@@ -58,8 +58,8 @@ module _ {t p plan : List ℕ} {v : Verdict} (a : AllWeighed t p plan v)
     prepared-ready = record { checked = rw (plan-sizes plans) checked; long = plans .long }
 
     pub prepared-cycles : length plan ≤ 1024 → {w : Verdict} → w ≡ cycles t p (sizeIn plan) → Prepared t p plan w
-    unfolding verdict settled
+    unfolding verdict settled checkSays
     prepared-cycles k f = record {
-      is = rw (long, passes) (f ∙ ap (λ (z : ℕ → Size). cycles t p z) (plan-sizes plans));
+      says = rw (long, passes) (ap answer (f ∙ ap (λ (z : ℕ → Size). cycles t p z) (plan-sizes plans)));
       ready = λ x. record { passes = passes; plans = plans; checked = checked; short = k; slight = l .3 };
     }

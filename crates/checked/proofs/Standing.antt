@@ -1,5 +1,5 @@
 -- What the code of `case_at` has found, in the words of its promise.
---   row-few, within                         the cells that are lent to the walk, and the place after those that it read
+--   within                                  the place after the cells that the walk read
 --   stood-why                               by the word that the walk handed back, where it read nothing
 --   stood-over, stood-number, stood-large   by cells left over, and then by 16
 --   stood                                   what stands at a place, by the answer's constructor
@@ -20,7 +20,7 @@ use Rattle.grammar.specs.declared.refusal.Refusal.the-variants.{NotACase, Numbe
 use Rattle.grammar.specs.Plan.{sizeIn, ruleIn}
 use Rattle.walk.specs.Walk.{cell, walk, depth}
 use Rattle.walk.specs.Room.{most}
-use Rattle.walk.specs.Run.{Read, read, wrong, run}
+use Rattle.walk.specs.Run.{Read, read, run}
 use Rattle.taking.specs.Took.{whyOf, Took, exact, large, stops, Taken}
 use Rattle.walk.specs.Plan.{Reading}
 use Rattle.walk.proofs.Only.{only}
@@ -44,7 +44,7 @@ module _ (cells : List ℕ) (at : ℕ) {room : ℕ} (f : room ≡ roomFor (lengt
   abbrev row : List ℕ
   row = take (at + room - at) (drop at cells)
 
-  pub row-few : length row ≤ most
+  row-few : length row ≤ most
   row-few = simp (length-take, length-drop) (omega (arith, f))
 
   row-most : row ≡ take most (drop at cells)

@@ -13,7 +13,6 @@ use Rattle.lists.proofs.Order.{le-or-lt}
 use Rattle.grammar.specs.Table.{kindOf, aOf, bOf, nodes}
 use Rattle.grammar.specs.Kind.{Node, before}
 use Rattle.grammar.specs.Law.{Holds, Good}
-use Rattle.grammar.specs.Rule.{Rule}
 use Rattle.grammar.specs.kinds.{kindIn}
 use Rattle.grammar.specs.Nodes.{nodeAt, ruleAt}
 use Rattle.grammar.specs.Sizes.{sizeAt, sizes, rulesOf}

@@ -6,7 +6,6 @@
 --   Said, Answered what `next` says; its answer, and the reader that is left
 --   lend, comes    Held is lent; what `next` leaves is an answer, and Held
 -- Assumes `Given`.
-use mathlib.Core.Path.{_≡_}
 use Prim.Native.Nat.{ℕ}
 use mathlib.Core.List.{List, [], _∷_}
 use lib.ListN.{length}

@@ -5,7 +5,7 @@ pub mod Calls
 pub mod WrittenInTurn
 pub mod Gathering
 pub mod Cuts
-pub mod Answers
 pub mod CountedRows
+pub mod Answers
 pub mod Lent
 pub mod Asking

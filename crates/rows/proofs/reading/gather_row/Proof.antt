@@ -23,7 +23,7 @@ gather-row-spec =
     Inv-loop
     μ-loop
     (λ c. storing-none _ _ _ _ _)
-    (λ c κs. let at-pre = c .before .before .before .before .before .before in (at-pre .pre, c .before .loop .inv .counts .within))
+    (λ c κs. let at-pre = c .before .before .before .before .before .before in (at-pre .pre, c .before .loop .inv .within))
     (λ c. search needs)
     (λ c. let at-loop = c .before .before .before .before .before .before in same-length _ _ (at-loop .loop .inv))
     (λ c. let at-n = c .before .before in let at-item-at = at-n .before .before in let at-loop-test = at-item-at .before in
