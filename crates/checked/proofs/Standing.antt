@@ -6,7 +6,7 @@
 -- Assumes nothing.
 use mathlib.Core.Path.{_≡_, refl, sym, subst, ap, _∙_}
 use mathlib.Core.Bool.{Bool, true, false}
-use mathlib.Core.Logic.{⊎-elim}
+use mathlib.Core.Logic.{_⊎_, inl, inr, ⊎-elim}
 use mathlib.Core.List.{List}
 use Prim.Native.Nat.{ℕ, _+_, _-_, _^_, _≤_, _<_}
 use native.Mathlib.Omega.{arith}
@@ -34,6 +34,10 @@ take-few : (l : List ℕ) {k : ℕ} → k ≡ roomFor (length l) → take k l �
 take-few l {k} e =
     ⊎-elim (λ u. let f : k ≡ length l = omega arith in rw f (take-length l ∙ sym (take-all most l u))) (λ u. let f : k ≡ most = omega arith in rw f)
     (le-or-lt (length l) most)
+
+-- what either arm of the code shows where they meet
+pub either : {A B C D : Type 0} → A ⊎ B → (A → C) → (B → D) → C ⊎ D
+either w f g = ⊎-elim (λ a. inl (f a)) (λ b. inr (g b)) w
 
 -- ---- what stands at a place, by the answer's constructor
 pub stood : {f : Front} {cells : List ℕ} {at : ℕ} {r k : Item} → Stood f cells at r → r ≡ k → StoodBy f cells at k
@@ -100,15 +104,14 @@ module _ (cells : List ℕ) (at : ℕ) {room : ℕ} (f : room ≡ roomFor (lengt
       stood-over m = let (n, e, _, _) = met in record { is = rw (e, drop-cons cells (at + used) 0 m) }
 
       -- ---- no cell is left over where none may be
-      module _ (b : Bool) (none : b ≡ true → length cells ≤ at + used) where
+      module _ (b : Bool) (none : (length cells ≤ at + used) ⊎ (b ≡ false)) where
         no-more : standing b (ruleIn plan p) i (drop at cells) ≡ front (ruleIn plan p) i (drop at cells)
         unfolding frontOf wholeOf
-        no-more = by b none
+        no-more = ⊎-elim (by b) (λ e. rw e) none
           where
-            by : (b : Bool) → (b ≡ true → length cells ≤ at + used)
-                → standing b (ruleIn plan p) i (drop at cells) ≡ front (ruleIn plan p) i (drop at cells)
+            by : (b : Bool) → length cells ≤ at + used → standing b (ruleIn plan p) i (drop at cells) ≡ front (ruleIn plan p) i (drop at cells)
             by false k = refl
-            by true k = let (n, e, _, _) = met in rw (e, drop-of-length-le cells {i = at + used} (k refl))
+            by true k = let (n, e, _, _) = met in rw (e, drop-of-length-le cells {i = at + used} k)
 
         pub stood-number : word < 2 ^ 62 → Stood (standing b (ruleIn plan p) i (drop at cells)) cells at (Number word (at + used))
         unfolding frontOf
