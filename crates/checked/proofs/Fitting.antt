@@ -64,19 +64,19 @@ fit-14 most w u v = rw (le-ltb w (2 ^ 63) u, ne-eqb w (2 ^ 63) v)
 pub fit-cells : (most w : ℕ) → w < 2 ^ 63 → Cells (most - w) ≡ outcome most (leftOf w)
 fit-cells most w q = rw (word-left w q)
 
-module _ {plan p : List ℕ} {i : ℕ} (h : Reading plan p i) (n room : ℕ) {b : Bool} (a : b ≡ asked (sizeOf (getD plan (4 * i + 3) 0)) n) where
+module _ {plan p : List ℕ} {i : ℕ} (h : Reading plan p i) (n : ℕ) {b : Bool} (a : b ≡ asked (sizeOf (getD plan (4 * i + 3) 0)) n) where
   -- the size that the plan has is the rule's
   asked-here : b ≡ asked (ruleIn plan p i .size) n
   asked-here = a ∙ ap (λ (s : Size). asked s n) (h .walks .good .sized i (h .node))
 
   -- ---- refused before the walk
-  pub decided-12 : b ≡ false → Not NoSuchNumber ≡ fitted (ruleIn plan p) i n room
+  pub decided-12 : (room : ℕ) → b ≡ false → Not NoSuchNumber ≡ fitted (ruleIn plan p) i n room
   unfolding fitted
-  decided-12 e = rw (← asked-here, e)
+  decided-12 room e = rw (← asked-here, e)
 
   -- ---- by what the walk met
   module _ (yes : b ≡ true) where
-    pub is-so : asked (ruleIn plan p i .size) n ≡ true
+    is-so : asked (ruleIn plan p i .size) n ≡ true
     is-so = sym asked-here ∙ yes
 
     pub may : Asked (ruleIn plan p i .size) n
@@ -85,10 +85,10 @@ module _ {plan p : List ℕ} {i : ℕ} (h : Reading plan p i) (n room : ℕ) {b 
     pub visits-of : Visits plan p i n
     visits-of = record { walks = h .walks; node = h .node; below = subst (Below n) (sym (h .walks .good .sized i (h .node))) (may .below) }
 
-    pub decided-walk : {most : ℕ} (w : ℕ) {f : Fit} → most ≡ roomFor room → f ≡ outcome most (leftOf w)
+    pub decided-walk : (room : ℕ) {most : ℕ} (w : ℕ) {f : Fit} → most ≡ roomFor room → f ≡ outcome most (leftOf w)
         → leftOf w ≡ tallied most (walk (ruleIn plan p) depth 0 i n) → f ≡ fitted (ruleIn plan p) i n room
     unfolding fitted
-    decided-walk w m e l = e ∙ rw (is-so, l, m)
+    decided-walk room w m e l = e ∙ rw (is-so, l, m)
 
 -- ---- over a buffer: after 12 it is as it was
 pub lent-long : (old : List ℕ) {most : ℕ} → most ≡ roomFor (length old) → most ≡ length (take most old)
@@ -104,7 +104,7 @@ over-part (c ∷ cs) (x ∷ old) (suc k) l = ap (λ (xs : List ℕ). c ∷ xs) (
 module _ {plan p : List ℕ} {i : ℕ} (h : Reading plan p i) (n : ℕ) {b : Bool} (a : b ≡ asked (sizeOf (getD plan (4 * i + 3) 0)) n) (old : List ℕ) where
   pub fits-12 : b ≡ false → FitOver (ruleIn plan p) i n old old (Not NoSuchNumber)
   fits-12 e = record {
-    is = decided-12 h n (length old) a e;
+    is = decided-12 h n a (length old) e;
     long = refl;
     holds = λ k q. let z : _≡_ {A = ℕ} 0 1 = cc in absurd (omega arith);
     kept = λ _.
@@ -113,14 +113,18 @@ module _ {plan p : List ℕ} {i : ℕ} (h : Reading plan p i) (n : ℕ) {b : Boo
 
   -- the front of the buffer, as long as a case may be, is lent on
   module _ (yes : b ≡ true) {most : ℕ} (w : ℕ) {f : Fit} (m : most ≡ roomFor (length old)) (e : f ≡ outcome most (leftOf w)) where
+    pub fits-long : {part : List ℕ} → Laid (length (take most old)) (walk (ruleIn plan p) depth 0 i n) (take most old) part (leftOf w)
+        → length (part ++ drop most old) ≡ length old
+    fits-long l = simp length-append (omega (arith, l .long, lent-long old m, length-drop most old, m))
+
     pub fits-walk : {part last : List ℕ} → Laid (length (take most old)) (walk (ruleIn plan p) depth 0 i n) (take most old) part (leftOf w)
         → last ≡ part ++ drop most old → FitOver (ruleIn plan p) i n old last f
     fits-walk {part} {last} l g =
         let long : length (take most old) ≡ most = sym (lent-long old m) in
         let is : leftOf w ≡ tallied most (walk (ruleIn plan p) depth 0 i n) = rw long at (l .is) in
         record {
-          is = decided-walk h n (length old) a yes w m e is;
-          long = rw g (simp length-append (omega (arith, l .long, long, length-drop most old, m)));
+          is = decided-walk h n a yes (length old) w m e is;
+          long = rw g (fits-long l);
           holds = λ k q.
               let (rest, x, y) = cells-left most k (leftOf w) (sym e ∙ q) in
               let few : length (cells (walk (ruleIn plan p) depth 0 i n)) ≤ most = omega (
@@ -129,7 +133,7 @@ module _ {plan p : List ℕ} {i : ℕ} (h : Reading plan p i) (n : ℕ) {b : Boo
                     (sym is ∙ x),
               ) in
               g ∙ (ap (λ (xs : List ℕ). xs ++ drop most old) (l .holds rest x) ∙ over-part (cells (walk (ruleIn plan p) depth 0 i n)) old most few);
-          kept = λ u. absurd (false≢true (sym u ∙ is-so h n (length old) a yes));
+          kept = λ u. absurd (false≢true (sym u ∙ is-so h n a yes));
         }
 
 -- ---- a case that is written whole or not at all

@@ -1,7 +1,7 @@
 -- What the code of `begin` has found, in the words of its promise.
 --   opens-refused   the table is refused
 --   opens-11        the start is not in the table
---   opens-ready     the plan may be walked from the start
+--   opens-ready, opened-reads   the plan may be walked from the start
 --   judged-past     what an answer says that no refusal is
 --   opens, opened-means   it accepts exactly an accepted table and a start in it
 -- Assumes nothing.
@@ -18,6 +18,7 @@ use Rattle.grammar.specs.declared.refusal.Refusal.the-variants.{NoSuchStart}
 use Rattle.grammar.specs.declared.refusal.Verdict.{Verdict}
 use Rattle.grammar.specs.declared.refusal.Verdict.the-variants.{Accepted, Refused}
 use Rattle.grammar.proofs.Values.{answer-one}
+use Rattle.walk.specs.Plan.{Reading}
 use Rattle.checked.specs.Prepared.{Prepared}
 use Rattle.checked.specs.Opening.{judged, opening, Opens}
 use Rattle.checked.proofs.Preparing.{refused-not}
@@ -43,6 +44,9 @@ module _ {t p plan : List ℕ} {v : Verdict} (h : Prepared t p plan v) (i : ℕ)
       is = rw (← is, e, lt-ltb i (nodes t) l);
       ready = λ a. record { reads = stands-at (h .ready e) l; rules = same-rules (h .ready e) };
     }
+
+pub opened-reads : {t p plan : List ℕ} {i : ℕ} {v : Verdict} → Opens t p plan i v → v ≡ Accepted → Reading plan p i
+opened-reads h e = h .ready e .reads
 
 -- an answer that no refusal is comes after the verdict
 pub judged-past : {A : Type 0} (refuses : Refusal → ℕ → A) (v : Verdict) {x y : A} → ((r : Refusal) (k : ℕ) → refuses r k ≡ y → ⊥)

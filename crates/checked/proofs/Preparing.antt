@@ -22,7 +22,7 @@ use Rattle.grammar.specs.declared.refusal.Verdict.{Verdict}
 use Rattle.grammar.specs.declared.refusal.Verdict.the-variants.{Accepted, Refused}
 use Rattle.grammar.proofs.Checked.{checked-of}
 use Rattle.planning.proofs.Plans.{plan-sizes}
-use Rattle.checked.specs.Prepared.{Prepared}
+use Rattle.checked.specs.Prepared.{Blank, Prepared}
 
 pub refused-not : {r : Refusal} {k : ℕ} → Refused r k ≡ Accepted → ⊥
 refused-not e = let x : _≡_ {A = ℕ} 0 1 = cc in omega arith
@@ -57,9 +57,9 @@ module _ {t p plan : List ℕ} {v : Verdict} (a : AllWeighed t p plan v)
     pub prepared-ready : Ready t p plan
     prepared-ready = record { checked = rw (plan-sizes plans) checked; long = plans .long }
 
-    pub prepared-cycles : length plan ≤ 1024 → {w : Verdict} → w ≡ cycles t p (sizeIn plan) → Prepared t p plan w
+    pub prepared-cycles : {old : List ℕ} → Blank t old → length plan ≡ length old → {w : Verdict} → w ≡ cycles t p (sizeIn plan) → Prepared t p plan w
     unfolding verdict settled checkSays
-    prepared-cycles k f = record {
+    prepared-cycles b k f = record {
       says = rw (long, passes) (ap answer (f ∙ ap (λ (z : ℕ → Size). cycles t p z) (plan-sizes plans)));
-      ready = λ x. record { passes = passes; plans = plans; checked = checked; short = k; slight = l .3 };
+      ready = λ x. record { passes = passes; plans = plans; checked = checked; short = omega (arith, b .short); slight = l .3 };
     }

@@ -16,11 +16,13 @@ prepare-spec =
     (λ c. prepared-length _ _ _ (search tests))
     (λ c. prepared-length _ _ _ (search tests))
     (λ c. prepared-length _ _ _ (search tests))
-    (λ c κs. let at-pre = c .before .before .before .before .before .before .before .before in let d = at-pre .pre in (omega arith, (d .clear, d .long (omega arith))))
+    (λ c κs. let at-pre = c .before .before .before .before .before .before .before .before in let d = at-pre .pre in
+    (omega arith, (d .clear, d .long (omega arith))))
     (λ c. search needs)
     (λ c. search needs)
-    (λ c κs. let at-weigh-all = c .before .before .before .before .before in prepared-ready (at-weigh-all .weigh-all .ensures) (search needs) (c .before .enum-told .given .1))
+    (λ c κs. let at-weigh-all = c .before .before .before .before .before in
+    prepared-ready (at-weigh-all .weigh-all .ensures) (search needs) (c .before .enum-told .given .1))
     (λ c. search needs)
-    (λ c. let at-weigh-all = c .before .before .before .before .before in prepared-fault (at-weigh-all .weigh-all .ensures) (search needs) (c .before .v .given .1))
+    (λ c. search (prepared-fault, needs))
     (λ c. search needs)
-    (λ c. let at-enum-told = c .before .before in let at-plan = at-enum-told .before .before .before in let at-weigh-all = at-plan .before in let at-pre = at-weigh-all .before .before .before .before .before .before .before .before .before in prepared-cycles (at-weigh-all .weigh-all .ensures) (search needs) (at-enum-told .enum-told .given .1) (omega (arith, at-plan .plan .given, at-pre .pre .short)) (c .judge .ensures)))
+    (λ c. search (prepared-cycles, needs)))
