@@ -14,7 +14,7 @@
 -- Assumes nothing.
 use mathlib.Core.Path.{_≡_, refl, sym, subst, ap, _∙_}
 use mathlib.Core.List.{List, [], _∷_, _++_, append-nil, map}
-use Prim.Native.Nat.{ℕ, _+_, _-_, _≤_, _<_}
+use Prim.Native.Nat.{ℕ, _+_, _-_, _^_, _≤_, _<_}
 use native.Mathlib.Omega.{arith}
 use lib.ListN.{length, length-map}
 use Rattle.numbers.specs.Size.{Size, Below}
@@ -53,7 +53,7 @@ module _ (t p : List ℕ) (a : verdict t p ≡ Accepted) (i : ℕ) (l : i < node
 
   -- ---- what a case is
   case-of : (n room k : ℕ) → writes t p i n room ≡ Done k → Case (rulesOf t p) i n (cells (walk (rulesOf t p) depth 0 i n))
-  case-of n room k e = let (q, s, c, f) = writes-done t p a i l n room k e in record { shows = s; few = omega arith }
+  case-of n room k e = let (q, s, c, f) = writes-done t p i n room k e in record { shows = s; few = omega arith }
 
   -- every case has at least one cell
   pub case-some : (n : ℕ) (cs : List ℕ) → Asked (rulesOf t p i .size) n → Case (rulesOf t p) i n cs → 0 < length cs
@@ -68,32 +68,36 @@ module _ (t p : List ℕ) (a : verdict t p ≡ Accepted) (i : ℕ) (l : i < node
       → run (rulesOf t p) depth 0 i (length cs + q) (cs ++ rest) ≡ read n q rest
   reads-on n cs rest q k c = back z (nodes t) (rulesOf t p) good depth 0 i n l (below k) cs (c .shows) q rest
 
+  pub reads-most : {n : ℕ} {cs : List ℕ} (rest : List ℕ) → Asked (rulesOf t p i .size) n → Case (rulesOf t p) i n cs
+      → run (rulesOf t p) depth 0 i most (cs ++ rest) ≡ read n (most - length cs) rest
+  reads-most {n} {cs} rest q c =
+      let room : length cs + (most - length cs) ≡ most = omega (arith, c .few) in
+      rw room at (reads-on n cs rest (most - length cs) q c)
+
   -- so `read`, which is for a whole case, refuses it
   pub longer-refused : (n : ℕ) (cs : List ℕ) (c : ℕ) (more : List ℕ) → Asked (rulesOf t p i .size) n → Case (rulesOf t p) i n cs
       → reads t p i (cs ++ (c ∷ more)) ≡ Refused NotACase 0
-  longer-refused n cs c more q k =
-      let room : length cs + (most - length cs) ≡ most = omega (arith, k .few) in
-      reads-is t p a i l (cs ++ (c ∷ more)) ∙ left-over _ (rw room at (reads-on n cs (c ∷ more) (most - length cs) q k))
+  longer-refused n cs c more q k = reads-is t p a i l (cs ++ (c ∷ more)) ∙ left-over _ (reads-most (c ∷ more) q k)
 
   -- ---- 1. written, then read
   case-read : (n : ℕ) (cs : List ℕ) → Asked (rulesOf t p i .size) n → Case (rulesOf t p) i n cs → reads t p i cs ≡ Number n
-  case-read n cs q c =
-      let room : length cs + (most - length cs) ≡ most = omega (arith, c .few) in
-      reads-is t p a i l cs ∙ number-found _ n (most - length cs) (rw (room, append-nil) at (reads-on n cs [] (most - length cs) q c)) (q .small)
+  case-read n cs q c = reads-is t p a i l cs ∙ number-found _ n (most - length cs) (rw append-nil at (reads-most [] q c)) (q .small)
 
   pub written-then-read : (n room k : ℕ) → writes t p i n room ≡ Done k → reads t p i (cells (walk (rulesOf t p) depth 0 i n)) ≡ Number n
-  written-then-read n room k e = case-read n _ (writes-done t p a i l n room k e .0) (case-of n room k e)
+  written-then-read n room k e = case-read n _ (writes-done t p i n room k e .0) (case-of n room k e)
 
   -- ---- 3. nothing else is accepted
+  pub read-case : {n q : ℕ} {cs rest : List ℕ} → run (rulesOf t p) depth 0 i most cs ≡ read n q rest → n < 2 ^ 62
+      → (ws : List ℕ) × Asked (rulesOf t p i .size) n × Case (rulesOf t p) i n ws × (cs ≡ ws ++ rest)
+  read-case {n} {q} {cs} r s =
+      let (b, w) = only z (nodes t) (rulesOf t p) good depth 0 i l most cs r in
+      (w .ws, record { below = subst (Below n) (good .sized i l) b; small = s }, record { shows = w .shows; few = omega (arith, w .room) }, w .stands)
+
   pub only-cases : (n : ℕ) (cs : List ℕ) → reads t p i cs ≡ Number n → Asked (rulesOf t p i .size) n × Case (rulesOf t p) i n cs
   only-cases n cs e =
       let (q, r, s) = found-number _ n (sym (reads-is t p a i l cs) ∙ e) in
-      let (b, w) = only z (nodes t) (rulesOf t p) good depth 0 i l most cs r in
-      let same : w .ws ≡ cs = sym (w .stands ∙ append-nil (w .ws)) in (
-        record { below = subst (Below n) (good .sized i l) b; small = s },
-        subst (Case (rulesOf t p) i n) same
-            (record { shows = w .shows; few = omega (arith, w .room) }),
-      )
+      let (ws, k, c, same) = read-case r s in
+      (k, subst (Case (rulesOf t p) i n) (sym (same ∙ append-nil ws)) c)
 
   pub one-case : (n : ℕ) (cs ds : List ℕ) → reads t p i cs ≡ Number n → reads t p i ds ≡ Number n → cs ≡ ds
   one-case n cs ds e f =

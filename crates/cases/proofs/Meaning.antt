@@ -5,7 +5,7 @@
 --   leads-is                       the computed test agrees with paths of any length
 --   verdict-9, -10, -accepted      the verdict by the cycles
 --   accepted-means                 an accepted table has neither
---   accepted-size, accepted-small  a node's size is its rule's, and 1 to 2^62 where it is finite
+--   accepted-small                 a node's size is 1 to 2^62 where it is finite
 -- Assumes nothing.
 use mathlib.Core.Path.{_≡_, refl, sym, subst, _∙_}
 use mathlib.Core.Bool.{Bool, true, false, _&&_}
@@ -22,7 +22,7 @@ use Rattle.lists.proofs.Order.{le-or-lt}
 use Rattle.graph.proofs.Lowest.{lowest-256}
 use Rattle.graph.proofs.Ways.{via-decide}
 use Rattle.grammar.specs.Table.{nodes, lengths}
-use Rattle.grammar.specs.Sizes.{Scan, passed, sizeAt, scan, sizes, sizesIn, rulesOf}
+use Rattle.grammar.specs.Sizes.{Scan, passed, sizeAt, scan, sizes, sizesIn}
 use Rattle.grammar.specs.Law.{Fit}
 use Rattle.grammar.specs.Checked.{Checked}
 use Rattle.grammar.specs.Steps.{Leads, Unguarded, ExceptOnCycle}
@@ -96,9 +96,6 @@ module _ (t p : List ℕ) (a : verdict t p ≡ Accepted) where
 
   pub accepted-checked : Checked t p (sizeAt (sizes t p))
   accepted-checked = table-checked t p accepted-long accepted-passes
-
-  pub accepted-size : (n : ℕ) → n < nodes t → sizeAt (sizes t p) n ≡ rulesOf t p n .size
-  accepted-size n l = accepted-checked .good .sized n l
 
   pub accepted-small : (n : ℕ) → n < nodes t → (s : ℕ) → sizeAt (sizes t p) n ≡ finite s → (0 < s) × (s ≤ 2 ^ 62)
   accepted-small n l s e = subst Fit e (accepted-checked .fit n l)

@@ -1,7 +1,7 @@
 -- What a call says in 01's values, and the enum's case that has them: two answers with the same values are the same answer.
---   check-says, check-is   `check`
+--   check-is               `check`
 --   written-one, wrote-is  `write`
---   found-one, read-says, read-is   `read`
+--   found-one, read-is     `read`
 -- Assumes nothing.
 use mathlib.Core.Path.{_≡_, refl, sym, ap, _∙_}
 use mathlib.Core.List.{List}
@@ -18,14 +18,9 @@ use Rattle.cases.specs.declared.reading.Found.{Found}
 use Rattle.cases.specs.declared.reading.Found.the-variants.{Number, Refused as Not-found}
 
 -- ---- check
-module _ (t p : List ℕ) {v : Verdict} where
-  pub check-says : v ≡ verdict t p → answer v ≡ checkSays t p
-  unfolding checkSays
-  check-says e = ap answer e
-
-  pub check-is : answer v ≡ checkSays t p → v ≡ verdict t p
-  unfolding checkSays
-  check-is e = answer-one v (verdict t p) e
+pub check-is : (t p : List ℕ) {v : Verdict} → answer v ≡ checkSays t p → v ≡ verdict t p
+unfolding checkSays
+check-is t p {v} e = answer-one v (verdict t p) e
 
 -- ---- write
 writtenOf : WriteAnswer → Written
@@ -55,11 +50,6 @@ found-back (Not-found r k) = refused-back (Number 0) (λ r. Not-found r k) r
 pub found-one : (f g : Found) → readOf f ≡ readOf g → f ≡ g
 found-one f g e = sym (found-back f) ∙ ap foundOf e ∙ found-back g
 
-module _ (t p : List ℕ) (i : ℕ) (cs : List ℕ) {r : Found} where
-  pub read-says : r ≡ reads t p i cs → readOf r ≡ readSays t p i cs
-  unfolding readSays
-  read-says e = ap readOf e
-
-  pub read-is : readOf r ≡ readSays t p i cs → r ≡ reads t p i cs
-  unfolding readSays
-  read-is e = found-one r (reads t p i cs) e
+pub read-is : (t p : List ℕ) (i : ℕ) (cs : List ℕ) {r : Found} → readOf r ≡ readSays t p i cs → r ≡ reads t p i cs
+unfolding readSays
+read-is t p i cs {r} e = found-one r (reads t p i cs) e

@@ -1,43 +1,50 @@
 -- Towards the theorems of `BothSides`: what the calls' answers say of the walks.
---   reads-is, found-number    what `read` answers; an answer with a number
+--   reads-is, front-number, found-number    what `read` answers; an answer with a number
 --   writes-is, writes-done    what `write` answers where the number may be asked for; an answer with a count
 -- Assumes nothing.
-use mathlib.Core.Path.{_≡_, refl, sym, ap, _∙_}
-use mathlib.Core.Bool.{Bool, true, false}
+use mathlib.Core.Path.{_≡_, refl, ap}
 use mathlib.Core.List.{List, [], _∷_, map}
 use Prim.Native.Nat.{ℕ, _^_, _≤_, _<_}
 use native.Mathlib.Omega.{arith}
 use lib.Dec.{ltb}
 use lib.ListN.{length}
 use borrow.Author.Tests.{lt-ltb, ltb-true}
-use Rattle.numbers.specs.Pick.{pick}
+use Rattle.numbers.proofs.Tests.{pick-by}
 use Rattle.grammar.specs.Table.{nodes}
 use Rattle.grammar.specs.Verdict.{verdict}
-use Rattle.grammar.specs.declared.refusal.Refusal.the-variants.{NotACase, NumberTooLarge}
+use Rattle.grammar.specs.declared.refusal.Refusal.the-variants.{NotACase}
 use Rattle.grammar.specs.declared.refusal.Verdict.the-variants.{Accepted}
 use Rattle.grammar.specs.Sizes.{rulesOf}
-use Rattle.walk.specs.Walk.{cell, walk, cells, depth}
+use Rattle.walk.specs.Walk.{cell, walk, depth}
 use Rattle.walk.specs.Run.{Read, read, wrong}
 use Rattle.checked.specs.Fits.{Asked, roomFor, fitted}
 use Rattle.checked.specs.declared.fits.Fit.{Fit}
 use Rattle.checked.specs.declared.fits.Fit.the-variants.{Cells, Not}
-use Rattle.checked.proofs.Fitted.{fitted-is, fitted-cells}
-use Rattle.checked.specs.Item.{number, refused, frontOf, wholeOf, whole}
-use Rattle.checked.proofs.Opens.{opens}
+use Rattle.checked.proofs.Fitted.{Counts, fitted-is, fitted-cells}
+use Rattle.checked.specs.Item.{Front, number, refused, frontOf, wholeOf, whole}
+use Rattle.checked.specs.Opening.{opening}
+use Rattle.checked.proofs.Opens.{judged-past, opens}
 use Rattle.cases.specs.Read.{found, reads}
 use Rattle.cases.specs.Write.{wrote, writes}
 use Rattle.cases.specs.declared.reading.Found.the-variants.{Number, Refused as Not-found}
-use Rattle.cases.specs.declared.writing.Written.the-variants.{Done}
+use Rattle.cases.specs.declared.writing.Written.the-variants.{Done, Refused as Refuses}
 
 -- ---- an answer with a number, an answer with a count
+pub front-number : (w : Read) {n : ℕ} {rest : List ℕ} → frontOf w ≡ number n rest → (q : ℕ) × (w ≡ read n q rest) × (n < 2 ^ 62)
+unfolding frontOf
+front-number (read m q ds) {n} {rest} e =
+    pick-by (λ (f : Front). f ≡ number n rest → (q' : ℕ) × (read m q ds ≡ read n q' rest) × (n < 2 ^ 62)) (ltb m (2 ^ 62))
+    (λ u v. let s : m ≡ n = cc in let s' : ds ≡ rest = cc in (q, rw (s, s'), omega (arith, ltb-true m (2 ^ 62) u)))
+    (λ u v. let z : _≡_ {A = ℕ} 0 1 = cc in absurd (omega arith)) e
+front-number (wrong r) e = let z : _≡_ {A = ℕ} 0 1 = cc in absurd (omega arith)
+
 pub found-number : (w : Read) (n : ℕ) → found (wholeOf w) ≡ Number n → (q : ℕ) × (w ≡ read n q []) × (n < 2 ^ 62)
 unfolding wholeOf frontOf
-found-number (read m q []) n e = by (ltb m (2 ^ 62)) refl e
+found-number (read m q []) n e = by (frontOf (read m q [])) refl e
   where
-    by : (b : Bool) → ltb m (2 ^ 62) ≡ b → found (pick b (number m []) (refused NumberTooLarge)) ≡ Number n
-        → (q' : ℕ) × (read m q [] ≡ read n q' []) × (n < 2 ^ 62)
-    by true u v = let s : m ≡ n = cc in (q, ap (λ (x : ℕ). read x q []) s, omega (arith, ltb-true m (2 ^ 62) u))
-    by false u v = let z : _≡_ {A = ℕ} 0 1 = cc in absurd (omega arith)
+    by : (f : Front) → frontOf (read m q []) ≡ f → found f ≡ Number n → (q' : ℕ) × (read m q [] ≡ read n q' []) × (n < 2 ^ 62)
+    by (number k rest) u v = let s : k ≡ n = cc in let (q', w, l) = front-number (read m q []) u in (q', (cc), omega arith)
+    by (refused r) u v = let z : _≡_ {A = ℕ} 0 1 = cc in absurd (omega arith)
 found-number (read m q (c ∷ cs)) n e = let z : _≡_ {A = ℕ} 0 1 = cc in absurd (omega arith)
 found-number (wrong r) n e = let z : _≡_ {A = ℕ} 0 1 = cc in absurd (omega arith)
 
@@ -58,17 +65,15 @@ module _ (t p : List ℕ) (a : verdict t p ≡ Accepted) (i : ℕ) (l : i < node
   unfolding reads
   reads-is cs = rw (opens t p a i l)
 
-  pub writes-by : (n room : ℕ) → writes t p i n room ≡ wrote (fitted (rulesOf t p) i n room)
-  unfolding writes
-  writes-by n room = rw (opens t p a i l)
-
   -- the cells are few enough, so `write` is done
   pub writes-is : (n room : ℕ) (cs : List ℕ) → Asked (rulesOf t p i .size) n → walk (rulesOf t p) depth 0 i n ≡ map cell cs → length cs ≤ roomFor room
       → writes t p i n room ≡ Done (length cs)
-  writes-is n room cs q e k = writes-by n room ∙ ap wrote (fitted-is (rulesOf t p) i n room cs q e k)
+  unfolding writes
+  writes-is n room cs q e k = rw (opens t p a i l, fitted-is (rulesOf t p) i n room cs q e k)
 
-  -- `write` is done, so the number may be asked for, and its walk meets cells only
-  pub writes-done : (n room k : ℕ) → writes t p i n room ≡ Done k
-      → Asked (rulesOf t p i .size) n × (walk (rulesOf t p) depth 0 i n ≡ map cell (cells (walk (rulesOf t p) depth 0 i n)))
-      × (length (cells (walk (rulesOf t p) depth 0 i n)) ≡ k) × (k ≤ roomFor room)
-  writes-done n room k e = fitted-cells (rulesOf t p) i n room k (wrote-done (fitted (rulesOf t p) i n room) k (sym (writes-by n room) ∙ e))
+-- `write` is done, so the number may be asked for, and its walk meets cells only
+pub writes-done : (t p : List ℕ) (i n room k : ℕ) → writes t p i n room ≡ Done k → Counts (rulesOf t p) i n room k
+unfolding writes
+writes-done t p i n room k e =
+    let (_, f) = judged-past Refuses (opening t p i) (λ r j q. let z : _≡_ {A = ℕ} 0 1 = cc in omega arith) e in
+    fitted-cells (rulesOf t p) i n room k (wrote-done (fitted (rulesOf t p) i n room) k f)

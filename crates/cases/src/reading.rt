@@ -1,7 +1,7 @@
 // From cells to the number.
 ghost use mathlib.Core.Path.{_≡_};
 ghost use Rattle.checked.specs.Prepared.{Blank};
-ghost use Rattle.cases.specs.Read.{reads, readOf, readSays};
+ghost use Rattle.cases.specs.Read.{readOf, readSays};
 use checked::item::Item;
 use checked::item::read_case;
 use checked::opened::begin;
@@ -20,7 +20,7 @@ pub enum Found {
 // The call over a lent plan.
 fn read_with(table: &[u64], pool: &[u64], plan: &mut [u64], start: usize, cells: &[u64]) -> Found
     requires { ⌜ Blank (now table) (now plan) ⌝ }
-    ensures { λ r. ⌜ r ≡ reads (now (table .entry)) (now (pool .entry)) start (now (cells .entry)) ⌝ }
+    ensures { λ r. ⌜ readOf r ≡ readSays (now (table .entry)) (now (pool .entry)) start (now (cells .entry)) ⌝ }
 {
     match begin(table, pool, plan, start) {
         Verdict::Refused(r, k) => Found::Refused(r, k),

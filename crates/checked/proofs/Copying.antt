@@ -1,6 +1,6 @@
 -- Words copied to the front of a buffer.
 --   Copied, copied-none, copied-more, copied-all   the loop
---   kept-copied   numbers that were all kept
+--   counted   the words that an answer counts, at the front of a buffer
 -- Assumes nothing.
 use mathlib.Core.Path.{_≡_, refl, ap, _∙_}
 use mathlib.Core.List.{List, [], _∷_}
@@ -11,7 +11,6 @@ use native.Mathlib.Omega.{arith}
 use lib.ListN.{length, getD, take, set}
 use Rattle.lists.specs.Filled.{over}
 use Rattle.lists.proofs.Fills.{length-over, over-front}
-use Rattle.checked.specs.Kept.{Kept}
 
 pub record Copied (from old : List ℕ) (count : ℕ) (now : List ℕ) (i : ℕ) : Type 0 where
   pub le : i ≤ count
@@ -41,12 +40,6 @@ copied-more {from} {old} {now} {count} {i} c l m k = record {
 pub copied-all : {from old now : List ℕ} {count i : ℕ} → Copied from old count now i → count ≤ i → now ≡ over (take count from) old
 copied-all {count = count} {i = i} c l = let e : i ≡ count = omega (arith, c .le) in rw e at (c .is)
 
--- ---- numbers that were all kept
-module _ {cs kept : List ℕ} {count room : ℕ} (k : Kept cs kept count room) (l : count ≤ length kept) where
-  front : take count kept ≡ cs
-  front =
-      let n : length kept ≡ length (k .old) = ap length (k .holds) ∙ length-over cs (k .old) in
-      ap (λ (xs : List ℕ). take count xs) (k .holds) ∙ rw (← k .many) (over-front cs (k .old) (omega (arith, k .many)))
-
-  pub kept-copied : (old : List ℕ) {last : List ℕ} → last ≡ over (take count kept) old → last ≡ over cs old
-  kept-copied old e = e ∙ rw front
+-- ---- the words that an answer counts
+pub counted : (new old : List ℕ) {last : List ℕ} {c : ℕ} → last ≡ over new old → c ≡ length new → c ≤ length old → take c last ≡ new
+counted new old e s l = rw (e, s) (over-front new old (omega arith))

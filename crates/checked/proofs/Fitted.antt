@@ -1,30 +1,46 @@
 -- What `fitted` says of a walk.
---   is-asked       a number that may be asked for, and its test
+--   is-asked, was-asked   a number that may be asked for, and its test
+--   cells-left     an answer with a count
 --   fitted-is      the walk meets cells only and they are few enough, so they are counted
 --   fitted-cells   the cells are counted, so the number may be asked for, and its walk meets cells only
 -- Assumes nothing.
-use mathlib.Core.Path.{_≡_, refl, ap}
-use mathlib.Core.Bool.{Bool, true, false}
+use mathlib.Core.Path.{_≡_, refl, sym, ap}
+use mathlib.Core.Bool.{true}
 use mathlib.Core.List.{List, [], _∷_, map}
 use Prim.Native.Nat.{ℕ, zero, suc, _-_, _^_, _≤_}
 use native.Mathlib.Nat.{not-suc-le-zero, le-of-suc-le-suc}
 use native.Mathlib.Omega.{arith}
 use lib.ListN.{length}
-use borrow.Author.Tests.{lt-ltb}
-use Rattle.numbers.specs.Pick.{pick}
+use lib.Dec.{ltb}
+use borrow.Author.Tests.{lt-ltb, ltb-true}
 use Rattle.numbers.specs.Size.{Size, finite, endless}
-use Rattle.grammar.specs.declared.refusal.Refusal.the-variants.{NoSuchNumber}
 use Rattle.grammar.specs.Rule.{Rule}
 use Rattle.walk.specs.Walk.{Event, cell, deep, walk, cells, depth}
-use Rattle.walk.specs.Room.{Left, tallied}
+use Rattle.walk.specs.Room.{RoomLeft, Left, tallied}
+use Rattle.walk.specs.Room.{TooDeep as Deep, NoRoom as Full}
 use Rattle.checked.specs.Fits.{asked, Asked, roomFor, outcome, fitted}
-use Rattle.checked.specs.declared.fits.Fit.the-variants.{Cells, Not}
+use Rattle.checked.specs.declared.fits.Fit.the-variants.{Cells}
+use Rattle.numbers.proofs.Tests.{and-left, and-right, pick-by}
 use Rattle.walk.proofs.Rooms.{tally-count}
-use Rattle.checked.proofs.Fitting.{was-asked, cells-left}
 
 pub is-asked : (s : Size) (n : ℕ) → Asked s n → asked s n ≡ true
 is-asked (finite m) n a = rw (lt-ltb n m (a .below), lt-ltb n (2 ^ 62) (a .small))
 is-asked endless n a = lt-ltb n (2 ^ 62) (a .small)
+
+-- a number that passes the test
+pub was-asked : (s : Size) (n : ℕ) → asked s n ≡ true → Asked s n
+was-asked (finite m) n e = record {
+  below = ltb-true n m (and-left (ltb n m) (ltb n (2 ^ 62)) e);
+  small = ltb-true n (2 ^ 62)
+      (and-right (ltb n m) (ltb n (2 ^ 62)) e);
+}
+was-asked endless n e = record { below = tt; small = ltb-true n (2 ^ 62) e }
+
+-- an answer with a count
+pub cells-left : (room k : ℕ) (x : RoomLeft) → outcome room x ≡ Cells k → (rest : ℕ) × (x ≡ Left rest) × (k ≡ room - rest)
+cells-left room k (Left rest) e = let s : room - rest ≡ k = cc in (rest, refl, sym s)
+cells-left room k Deep e = let z : _≡_ {A = ℕ} 0 1 = cc in absurd (omega arith)
+cells-left room k Full e = let z : _≡_ {A = ℕ} 0 1 = cc in absurd (omega arith)
 
 -- ---- events that are cells and nothing else
 pub cells-map : (cs : List ℕ) → cells (map cell cs) ≡ cs
@@ -52,15 +68,14 @@ module _ (g : ℕ → Rule) (i n room : ℕ) where
       let s : roomFor room - (roomFor room - length cs) ≡ length cs = omega arith in
       rw (is-asked (g i .size) n q, e, tallied-map (roomFor room) cs k, s)
 
-  pub fitted-cells : (k : ℕ) → fitted g i n room ≡ Cells k
-      → Asked (g i .size) n × (walk g depth 0 i n ≡ map cell (cells (walk g depth 0 i n))) × (length (cells (walk g depth 0 i n)) ≡ k) × (k ≤ roomFor room)
+  -- the number may be asked for, and its walk meets so many cells, and nothing else
+  abbrev pub Counts : ℕ → Type 0
+  Counts k = Asked (g i .size) n × (walk g depth 0 i n ≡ map cell (cells (walk g depth 0 i n))) × (length (cells (walk g depth 0 i n)) ≡ k) × (k ≤ roomFor room)
+
+  pub fitted-cells : (k : ℕ) → fitted g i n room ≡ Cells k → Counts k
   unfolding fitted
-  fitted-cells k e = by (asked (g i .size) n) refl e
-    where
-      by : (b : Bool) → asked (g i .size) n ≡ b → pick b (outcome (roomFor room) (tallied (roomFor room) (walk g depth 0 i n))) (Not NoSuchNumber) ≡ Cells k
-          → Asked (g i .size) n × (walk g depth 0 i n ≡ map cell (cells (walk g depth 0 i n))) × (length (cells (walk g depth 0 i n)) ≡ k) × (k ≤ roomFor room)
-      by true u v =
-          let (rest, f, s) = cells-left (roomFor room) k (tallied (roomFor room) (walk g depth 0 i n)) v in
-          let c = tally-count (roomFor room) (walk g depth 0 i n) f in
-          (was-asked (g i .size) n u, tallied-left (roomFor room) (walk g depth 0 i n) f, omega arith, omega arith)
-      by false u v = let z : _≡_ {A = ℕ} 0 1 = cc in absurd (omega arith)
+  fitted-cells k e = pick-by (λ f. f ≡ Cells k → Counts k) (asked (g i .size) n) (λ u v.
+      let (rest, f, s) = cells-left (roomFor room) k (tallied (roomFor room) (walk g depth 0 i n)) v in
+      let c = tally-count (roomFor room) (walk g depth 0 i n) f in
+      (was-asked (g i .size) n u, tallied-left (roomFor room) (walk g depth 0 i n) f, omega arith, omega arith))
+      (λ u v. let z : _≡_ {A = ℕ} 0 1 = cc in absurd (omega arith)) e

@@ -2,8 +2,7 @@
 pub mod Preparing
 pub mod Walking
 pub mod Copying
-pub mod Fitting
 pub mod Fitted
+pub mod Fitting
 pub mod Standing
-pub mod Placing
 pub mod Opens

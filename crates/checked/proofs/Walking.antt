@@ -13,7 +13,6 @@ use Rattle.lists.proofs.Order.{le-or-lt}
 use Rattle.grammar.specs.Table.{kindOf, aOf, bOf, nodes}
 use Rattle.grammar.specs.Kind.{Node, before}
 use Rattle.grammar.specs.Law.{Holds, Good}
-use Rattle.grammar.specs.Rule.{Rule}
 use Rattle.grammar.specs.kinds.{kindIn}
 use Rattle.grammar.specs.Nodes.{nodeAt, ruleAt}
 use Rattle.grammar.specs.Sizes.{sizeAt, sizes, rulesOf}
@@ -56,14 +55,10 @@ module _ {t p plan : List ℕ} (h : Planning t p plan) where
       the-node a b f = record { own = k; a = a; b = b; kind = f; nodes = nodes t; pool = p }
 
   pub holds : (k : ℕ) → k < nodes t → Holds (kindIn (kindWord plan k) .checks (nodeIn plan p (nodes t) k) (before (sizeIn plan) k))
-  holds k l =
-      subst (λ (z : ℕ → Size). Holds (kindIn (kindWord plan k) .checks (nodeIn plan p (nodes t) k) (before z k))) (sym same-sizes)
-      (subst (λ (v : Node). Holds (kindIn (kindWord plan k) .checks v (before (sizeAt (sizes t p)) k))) (sym (same-node k))
-      (subst (λ (w : ℕ). Holds (kindIn w .checks (nodeAt t p k) (before (sizeAt (sizes t p)) k))) (sym (same-kind k)) (h .checked .holds k l)))
+  holds k l = rw (same-sizes, same-node k, same-kind k) (h .checked .holds k l)
 
   pub good : Good (sizeIn plan) (nodes t) (ruleIn plan p)
-  good = subst (λ (z : ℕ → Size). Good z (nodes t) (ruleIn plan p)) (sym same-sizes)
-      (subst (λ (g : ℕ → Rule). Good (sizeAt (sizes t p)) (nodes t) g) (sym same-rules) (h .checked .good))
+  good = rw (same-sizes, same-rules) (h .checked .good)
 
   pub some : (k : ℕ) → k < nodes t → Some (sizeIn plan k)
   some k l = subst (λ (z : ℕ → Size). Some (z k)) (sym same-sizes) (fit-some (sizeAt (sizes t p) k) (h .checked .fit k l))

@@ -2,10 +2,11 @@
 --   Front     the number and the cells after its case, or the refusal
 --   front     what stands at the front
 --   whole     what all the cells are, as one case
---   itemOf    the answer for a word
+--   standing  one or the other
 --   Stood     the code's answer, with a place for the cells from there on
 -- Assumes nothing.
 use mathlib.Core.Path.{_≡_}
+use mathlib.Core.Bool.{Bool, true, false}
 use mathlib.Core.List.{List, [], _∷_}
 use Prim.Native.Nat.{ℕ, _^_, _≤_, _<_}
 use lib.Dec.{ltb}
@@ -41,8 +42,9 @@ wholeOf (wrong r) = refused r
 abbrev pub whole : (ℕ → Rule) → ℕ → List ℕ → Front
 whole g i cs = wholeOf (run g depth 0 i most cs)
 
-unfoldable pub itemOf : ℕ → ℕ → Item
-itemOf word next = pick (ltb word (2 ^ 62)) (Number word next) (Not NumberTooLarge)
+abbrev pub standing : Bool → (ℕ → Rule) → ℕ → List ℕ → Front
+standing true = whole
+standing false = front
 
 abbrev pub StoodBy : Front → List ℕ → ℕ → Item → Type 0
 StoodBy f cells at (Number n next) = (f ≡ number n (drop next cells)) × (at < next) × (next ≤ length cells)

@@ -1,7 +1,5 @@
 -- What every public call does inside.
 pub mod Prepared
 pub mod Fits
-pub mod Kept
-pub mod Met
 pub mod Item
 pub mod Opening

@@ -1,5 +1,5 @@
 -- The check inside a call: its verdict, and the plan of an accepted table.
---   Prepared   the verdict is the table's, and where it is accepted the plan holds its nodes and their sizes
+--   Prepared   the verdict is the table's, in 01's values, and where it is accepted the plan holds its nodes and their sizes
 --   Blank      an empty plan, with a row for each node of a table that is not too long
 -- Assumes nothing.
 use mathlib.Core.Path.{_≡_}
@@ -8,7 +8,7 @@ use Rattle.grammar.specs.Table.{nodes}
 use Rattle.grammar.specs.Sizes.{sizeAt, scan, passed, sizes}
 use Rattle.grammar.specs.Checked.{Checked}
 use Rattle.grammar.specs.Plan.{Planned}
-use Rattle.grammar.specs.Verdict.{verdict}
+use Rattle.grammar.specs.Verdict.{answer, checkSays}
 use Rattle.grammar.specs.declared.refusal.Verdict.{Verdict}
 use Rattle.grammar.specs.declared.refusal.Verdict.the-variants.{Accepted}
 use lib.ListN.{length, replicate}
@@ -27,5 +27,5 @@ pub record Planning (t p plan : List ℕ) : Type 0 where
   pub slight : length p ≤ 4096
 
 pub record Prepared (t p plan : List ℕ) (v : Verdict) : Type 0 where
-  pub is : v ≡ verdict t p
+  pub says : answer v ≡ checkSays t p
   pub ready : v ≡ Accepted → Planning t p plan

@@ -1,15 +1,11 @@
 // One case at the front of cells, on a checked table: "the walk, then 16".
 ghost use mathlib.Core.Path.{_≡_};
-ghost use Prim.Native.Nat.{_^_, _<_, _≤_};
+ghost use Prim.Native.Nat.{_≤_};
 ghost use lib.ListN.{length, drop};
 ghost use Rattle.grammar.specs.Plan.{ruleIn};
-ghost use Rattle.walk.specs.Walk.{depth};
-ghost use Rattle.walk.specs.Room.{most};
-ghost use Rattle.walk.specs.Run.{run};
 ghost use Rattle.taking.specs.Took.{whyOf};
 ghost use Rattle.walk.specs.Plan.{Reading};
-ghost use Rattle.checked.specs.Item.{front, whole, itemOf, Stood};
-ghost use Rattle.checked.specs.Met.{Met};
+ghost use Rattle.checked.specs.Item.{front, whole, standing, Stood};
 use super::fits::DEPTH;
 use super::fits::MOST_CELLS;
 use super::fits::room_for;
@@ -19,12 +15,6 @@ use numbers::size::LARGEST;
 use taking::own::DEEP;
 use taking::own::UNFIT;
 use taking::take::take;
-
-// The word that the walk read and the place after its cells, or why nothing is read.
-enum Got {
-    Case(u64, usize),
-    Wrong(Refusal),
-}
 
 // The number and the place after its cells, or why there is none.
 pub enum Item {
@@ -48,26 +38,26 @@ fn why(word: u64, full: bool) -> Refusal
     Refusal::NotACase
 }
 
-// The case that starts at a place: "The limit of 65,536 counts from the item's first cell".
-fn got_at(pool: &[u64], plan: &[u64], start: usize, cells: &[u64], at: usize) -> Got
+// The case that starts at a place: "The limit of 65,536 counts from the item's first cell". "Then cells
+// left over (15, whole-case reading only), then 16."
+fn case_at(pool: &[u64], plan: &[u64], start: usize, cells: &[u64], at: usize, whole: bool) -> Item
     requires { ⌜ Reading (now plan) (now pool) start × (at ≤ length (now cells)) ⌝ }
-    ensures { λ r. ⌜ Met (run (ruleIn (now (plan .entry)) (now (pool .entry))) depth 0 start most (drop at (now (cells .entry)))) (now (cells .entry)) at r ⌝ }
+    ensures { λ r. ⌜ Stood (standing whole (ruleIn (now (plan .entry)) (now (pool .entry))) start (drop at (now (cells .entry)))) (now (cells .entry)) at r ⌝ }
 {
     let left = cells.len() - at;
     let few = room_for(left);
     let row = &cells[at..at + few];
     let mut used: usize = 0;
     let word = take(&pool, &plan, start, &row, DEPTH, 0, &mut used);
-    if word <= BIG {
-        return Got::Case(word, at + used);
+    if BIG < word {
+        return Item::Not(why(word, MOST_CELLS <= left));
     }
-    Got::Wrong(why(word, MOST_CELLS <= left))
-}
-
-// "then 16": a number that is not below 2^62.
-fn numbered(word: u64, next: usize) -> Item
-    ensures { λ r. ⌜ r ≡ itemOf word next ⌝ }
-{
+    let next = at + used;
+    if whole {
+        if next < cells.len() {
+            return Item::Not(Refusal::NotACase);
+        }
+    }
     if word < LARGEST {
         return Item::Number(word, next);
     }
@@ -79,24 +69,13 @@ pub fn item_at(pool: &[u64], plan: &[u64], start: usize, cells: &[u64], at: usiz
     requires { ⌜ Reading (now plan) (now pool) start × (at ≤ length (now cells)) ⌝ }
     ensures { λ r. ⌜ Stood (front (ruleIn (now (plan .entry)) (now (pool .entry))) start (drop at (now (cells .entry)))) (now (cells .entry)) at r ⌝ }
 {
-    match got_at(pool, plan, start, cells, at) {
-        Got::Case(word, next) => numbered(word, next),
-        Got::Wrong(r) => Item::Not(r),
-    }
+    case_at(pool, plan, start, cells, at, false)
 }
 
-// All cells are one case: "Then cells left over (15, whole-case reading only), then 16."
+// All cells are one case.
 pub fn read_case(pool: &[u64], plan: &[u64], start: usize, cells: &[u64]) -> Item
     requires { ⌜ Reading (now plan) (now pool) start ⌝ }
     ensures { λ r. ⌜ Stood (whole (ruleIn (now (plan .entry)) (now (pool .entry))) start (now (cells .entry))) (now (cells .entry)) 0 r ⌝ }
 {
-    match got_at(pool, plan, start, cells, 0) {
-        Got::Case(word, next) => {
-            if next < cells.len() {
-                return Item::Not(Refusal::NotACase);
-            }
-            numbered(word, next)
-        }
-        Got::Wrong(r) => Item::Not(r),
-    }
+    case_at(pool, plan, start, cells, 0, true)
 }

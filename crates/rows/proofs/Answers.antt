@@ -7,7 +7,6 @@
 use mathlib.Core.Path.{_≡_, refl, sym, ap, subst, _∙_}
 use mathlib.Core.List.{List, [], _++_, append-nil}
 use Prim.Native.Nat.{ℕ, suc, _≤_, _<_}
-use native.Mathlib.Omega.{arith}
 use lib.ListN.{length, take}
 use Rattle.grammar.specs.Table.{nodes}
 use Rattle.grammar.specs.Verdict.{verdict}
@@ -15,36 +14,19 @@ use Rattle.grammar.specs.declared.refusal.Refusal.{Refusal}
 use Rattle.grammar.specs.declared.refusal.Verdict.the-variants.{Accepted}
 use Rattle.grammar.specs.Rule.{Rule}
 use Rattle.grammar.specs.Sizes.{rulesOf}
-use Rattle.lists.specs.Filled.{over}
-use Rattle.lists.proofs.Fills.{over-front}
 use Rattle.checked.proofs.Opens.{opens}
-use Rattle.rows.specs.Row.{leaves}
-use Rattle.rows.specs.WriteRow.{inTurn, rowOf, writesRow, WroteRow}
-use Rattle.rows.specs.ReadRow.{Gathered, all, stopped, gather, answered, gotten, readsRow, GotRow}
+use Rattle.rows.specs.WriteRow.{inTurn, writesRow, WroteRow}
+use Rattle.rows.specs.ReadRow.{gather, answered, gotten, readsRow, GotRow}
 use Rattle.rows.specs.Reader.{next, strideOf}
 use Rattle.rows.specs.Cut.{Cut, joined, handOut, asks}
 use Rattle.rows.specs.declared.answer.Row.{Row}
 use Rattle.rows.specs.declared.answer.Row.the-variants.{Done, Refused}
 use Rattle.rows.specs.declared.reader.Next.the-variants.{End, Refused as Not-handed}
 use Rattle.rows.proofs.WrittenInTurn.{done-row}
-use Rattle.rows.proofs.Cuts.{gathered-fits, turns-cut, cut-turns, gather-cut, cut-gather, cut-stopped, asks-cut}
+use Rattle.rows.proofs.Cuts.{turns-cut, cut-turns, gather-cut, cut-gather, cut-stopped, asks-cut}
+use Rattle.rows.proofs.Gathering.{answered-all, answered-stopped}
+use Rattle.rows.proofs.CountedRows.{row-size, row-cells, got-numbers}
 use Rattle.rows.proofs.Values.{wrote-row-is, got-row-is}
-
--- an answer by what was gathered
-answered-all : (used : ℕ) (x : Gathered) {m c : ℕ} → answered used x ≡ Done m c → (ns : List ℕ) × (x ≡ all ns) × (length ns ≡ m) × (used ≡ c)
-answered-all used (all ns) {m} {c} e = let s : length ns ≡ m = cc in let s' : used ≡ c = cc in (ns, refl, s, s')
-answered-all used (stopped r k) e = let z : _≡_ {A = ℕ} 0 1 = cc in absurd (omega arith)
-
-answered-stopped : (used : ℕ) (x : Gathered) {r : Refusal} {k item : ℕ} → answered used x ≡ Refused r k item → x ≡ stopped r item
-answered-stopped used (all ns) e = let z : _≡_ {A = ℕ} 0 1 = cc in absurd (omega arith)
-answered-stopped used (stopped x j) {r} {k} {item} e =
-    let s : x ≡ r = cc in
-    let s' : j ≡ item = cc in
-    rw (s, s')
-
--- the words that an answer counts
-counted : (new old : List ℕ) {last : List ℕ} {c : ℕ} → last ≡ over new old → c ≡ length new → length new ≤ length old → take c last ≡ new
-counted new old e s f = rw (e, s) (over-front new old f)
 
 -- an answer and its words, said by equals
 pub said-by : {w : Row} (last : List ℕ) {xs ys : List ℕ} {m m' c c' : ℕ} → (w ≡ Done m' c') × (take c' last ≡ xs) → m' ≡ m → c' ≡ c → xs ≡ ys → (w ≡ Done m c)
@@ -69,18 +51,14 @@ module _ (t p : List ℕ) (a : verdict t p ≡ Accepted) (i : ℕ) (l : i < node
   wrote-cut {ns} {css} cut {old} {last} {w} f h =
       let (e, same) = turns-cut t p a i l (length old) cut f in
       let is : w ≡ Done (length ns) (length (joined css)) = wrote-row-is h ∙ writes-row-is (length old) ns ∙ e in
-      let holds : last ≡ over (joined css) old = h .holds ∙ ap (λ (x : Row). leaves x (rowOf g i ns) old) is ∙ ap (λ (xs : List ℕ). over xs old) same in
-      (is, counted (joined css) old holds refl f)
+      (is, row-cells h is ∙ same)
 
   pub cut-wrote : {ns old last : List ℕ} {m c : ℕ} → WroteRow t p i ns old last (Done m c)
       → (css : List (List ℕ)) × Cut g i ns css × (m ≡ length ns) × (c ≡ length (joined css)) × (take c last ≡ joined css)
   cut-wrote {ns} {old} {last} {m} {c} h =
       let e : inTurn g i (length old) ns ≡ Done m c = sym (wrote-row-is h ∙ writes-row-is (length old) ns) in
       let (css, cut, same) = cut-turns t p a i l (length old) ns e in
-      let (many, used, fits) = done-row g i (length old) ns e in
-      let long : c ≡ length (joined css) = used ∙ ap length (sym same) in
-      let holds : last ≡ over (joined css) old = h .holds ∙ ap (λ (xs : List ℕ). over xs old) (sym same) in
-      (css, cut, many, long, counted (joined css) old holds long (omega arith))
+      (css, cut, done-row g i (length old) ns e .0, row-size h refl ∙ ap length (sym same), row-cells h refl ∙ sym same)
 
   -- ---- reading
   pub got-cut : {ns : List ℕ} {css : List (List ℕ)} → Cut g i ns css → {old last : List ℕ} {r : Row} → length ns ≤ length old
@@ -88,18 +66,14 @@ module _ (t p : List ℕ) (a : verdict t p ≡ Accepted) (i : ℕ) (l : i < node
   got-cut {ns} {css} cut {old} {last} {r} f h =
       let e = gather-cut t p a i l (length old) cut f in
       let is : r ≡ Done (length ns) (length (joined css)) = got-row-is h ∙ reads-row-is (length old) (joined css) ∙ ap (answered (length (joined css))) e in
-      let holds : last ≡ over ns old =
-      h .holds ∙ ap (λ (x : Row). leaves x (gotten (gather g i (length old) (joined css))) old) is ∙ ap (λ (x : Gathered). over (gotten x) old) e in
-      (is, counted ns old holds refl f)
+      (is, got-numbers h is ∙ ap gotten e)
 
   pub cut-got : {cs old last : List ℕ} {m c : ℕ} → GotRow t p i cs old last (Done m c)
       → (css : List (List ℕ)) × Cut g i (take m last) css × (joined css ≡ cs) × (length (take m last) ≡ m) × (length cs ≡ c)
   cut-got {cs} {old} {last} {m} {c} h =
       let (ns, e, many, used) = answered-all (length cs) (gather g i (length old) cs) (sym (got-row-is h ∙ reads-row-is (length old) cs)) in
       let (css, cut, same) = cut-gather t p a i l (length old) cs ns e in
-      let fits : length ns ≤ length old = gathered-fits g i (length old) cs e in
-      let holds : last ≡ over ns old = h .holds ∙ ap (λ (x : Gathered). over (gotten x) old) e in
-      let these : take m last ≡ ns = counted ns old holds (sym many) fits in
+      let these : take m last ≡ ns = got-numbers h refl ∙ ap gotten e in
       (css, subst (λ (xs : List ℕ). Cut g i xs css) (sym these) cut, same, ap length these ∙ many, used)
 
   pub got-stopped : {row old last : List ℕ} {r : Refusal} {item : ℕ} → GotRow t p i row old last (Refused r 0 item) → length row ≤ length old

@@ -11,40 +11,33 @@ use lib.ListN.{length, take, drop, length-append, length-drop}
 use Rattle.grammar.specs.Table.{nodes}
 use Rattle.grammar.specs.Verdict.{verdict}
 use Rattle.grammar.specs.declared.refusal.Verdict.{Verdict}
-use Rattle.grammar.specs.declared.refusal.Verdict.the-variants.{Accepted, Refused as Refuses}
+use Rattle.grammar.specs.declared.refusal.Verdict.the-variants.{Accepted}
 use Rattle.grammar.specs.Sizes.{rulesOf}
-use Rattle.lists.specs.Filled.{over}
-use Rattle.lists.proofs.Fills.{over-front}
+use Rattle.checked.proofs.Copying.{counted}
 use Rattle.cases.proofs.BothSides.{case-some}
 use Rattle.checked.specs.Opening.{judged, opening}
-use Rattle.checked.proofs.Opens.{opened-means}
+use Rattle.checked.proofs.Opens.{judged-past, opened-means}
 use Rattle.checked.specs.Item.{Front, number, refused, front}
 use Rattle.rows.specs.Row.{atFirst, leaves}
-use Rattle.rows.specs.WriteRow.{inTurn, rowOf, writesRow, WroteRow}
-use Rattle.rows.specs.ReadRow.{Gathered, all, stopped, gather, answered, gotten, readsRow, GotRow}
+use Rattle.rows.specs.WriteRow.{rowOf, writesRow, WroteRow}
+use Rattle.rows.specs.ReadRow.{gather, gotten, readsRow, GotRow}
 use Rattle.rows.specs.Reader.{handed, next, nextOf}
 use Rattle.rows.specs.declared.answer.Row.{Row}
 use Rattle.rows.specs.declared.answer.Row.the-variants.{Done}
 use Rattle.rows.specs.declared.reader.Next.the-variants.{Item, Refused as Not-handed}
 use Rattle.rows.proofs.WrittenInTurn.{done-row}
-use Rattle.rows.proofs.Cuts.{gathered-fits, case-front}
+use Rattle.rows.proofs.Cuts.{gathered-size, case-front}
 use Rattle.rows.proofs.Values.{wrote-row-is, got-row-is}
 
 -- ---- an answer that is done: the call has opened
-judged-done : (v : Verdict) (r : Row) {m c : ℕ} → judged atFirst v r ≡ Done m c → r ≡ Done m c
-judged-done Accepted r e = e
-judged-done (Refuses x k) r e = let z : _≡_ {A = ℕ} 0 1 = cc in absurd (omega arith)
-
-answered-size : (used room : ℕ) (x : Gathered) → ((ns : List ℕ) → x ≡ all ns → length ns ≤ room) → {m c : ℕ} → answered used x ≡ Done m c
-    → (m ≡ length (gotten x)) × (m ≤ room)
-answered-size used room (all ns) f {m} e = let s : length ns ≡ m = cc in (sym s, omega (arith, f ns refl))
-answered-size used room (stopped r k) f e = let z : _≡_ {A = ℕ} 0 1 = cc in absurd (omega arith)
+judged-done : (v : Verdict) {r : Row} {m c : ℕ} → judged atFirst v r ≡ Done m c → r ≡ Done m c
+judged-done v e = judged-past atFirst v (λ x k q. let z : _≡_ {A = ℕ} 0 1 = cc in omega arith) e .1
 
 module _ {t p : List ℕ} {i : ℕ} where
   module _ {ns old last : List ℕ} {r : Row} (h : WroteRow t p i ns old last r) {m c : ℕ} (e : r ≡ Done m c) where
     written : (m ≡ length ns) × (c ≡ length (rowOf (rulesOf t p) i ns)) × (c ≤ length old)
     unfolding writesRow
-    written = done-row (rulesOf t p) i (length old) ns (judged-done (opening t p i) (inTurn (rulesOf t p) i (length old) ns) (sym (wrote-row-is h) ∙ e))
+    written = done-row (rulesOf t p) i (length old) ns (judged-done (opening t p i) (sym (wrote-row-is h) ∙ e))
 
     pub row-size : c ≡ length (rowOf (rulesOf t p) i ns)
     row-size = written .1
@@ -53,18 +46,13 @@ module _ {t p : List ℕ} {i : ℕ} where
     row-fits = written .2
 
     pub row-cells : take c last ≡ rowOf (rulesOf t p) i ns
-    row-cells =
-        let ws = rowOf (rulesOf t p) i ns in
-        let holds : last ≡ over ws old = h .holds ∙ ap (λ (w : Row). leaves w ws old) e in
-        rw (holds, row-size) (over-front ws old (omega (arith, row-size, row-fits)))
+    row-cells = counted (rowOf (rulesOf t p) i ns) old (h .holds ∙ ap (λ (w : Row). leaves w (rowOf (rulesOf t p) i ns) old) e) row-size row-fits
 
   module _ {cs old last : List ℕ} {r : Row} (h : GotRow t p i cs old last r) {m c : ℕ} (e : r ≡ Done m c) where
     read : (m ≡ length (gotten (gather (rulesOf t p) i (length old) cs))) × (m ≤ length old)
     unfolding readsRow
     read =
-        let x = gather (rulesOf t p) i (length old) cs in
-        answered-size (length cs) (length old) x (λ ns f. gathered-fits (rulesOf t p) i (length old) cs f)
-        (judged-done (opening t p i) (answered (length cs) x) (sym (got-row-is h) ∙ e))
+        gathered-size (rulesOf t p) i (length old) cs (length cs) (judged-done (opening t p i) (sym (got-row-is h) ∙ e))
 
     pub got-size : m ≡ length (gotten (gather (rulesOf t p) i (length old) cs))
     got-size = read .0
@@ -75,8 +63,7 @@ module _ {t p : List ℕ} {i : ℕ} where
     pub got-numbers : take m last ≡ gotten (gather (rulesOf t p) i (length old) cs)
     got-numbers =
         let ws = gotten (gather (rulesOf t p) i (length old) cs) in
-        let holds : last ≡ over ws old = h .holds ∙ ap (λ (w : Row). leaves w ws old) e in
-        rw (holds, got-size) (over-front ws old (omega (arith, got-size, got-fits)))
+        counted ws old (h .holds ∙ ap (λ (w : Row). leaves w ws old) e) got-size got-fits
 
 -- ---- the reader
 module _ (t p : List ℕ) (i n k : ℕ) where
@@ -97,12 +84,10 @@ module _ (t p : List ℕ) (i n k : ℕ) where
       by (refused r) u v = let z : _≡_ {A = ℕ} 0 1 = cc in absurd (omega arith)
 
   module _ (row : List ℕ) (at : ℕ) where
-    judged-moves : (v : Verdict) → opening t p i ≡ v → judged Not-handed v (next (rulesOf t p) i (drop at row)) ≡ Item n k → Moves (drop at row)
-    judged-moves Accepted u e = let (a, l) = opened-means t p i u in item-moves a l (drop at row) e
-    judged-moves (Refuses r j) u e = let z : _≡_ {A = ℕ} 0 1 = cc in absurd (omega arith)
-
     pub next-moves : nextOf t p i row at ≡ Item n k → (at < length row) × (0 < k) × (k ≤ length row - at)
     unfolding nextOf
     next-moves e =
-        let (x, y, z) = judged-moves (opening t p i) refl e in
+        let (u, f) = judged-past Not-handed (opening t p i) (λ r j q. let z : _≡_ {A = ℕ} 0 1 = cc in omega arith) e in
+        let (a, l) = opened-means t p i u in
+        let (x, y, z) = item-moves a l (drop at row) f in
         (omega (arith, length-drop at row), y, omega (arith, length-drop at row))

@@ -6,36 +6,30 @@
 --   asks-cut                 a reader hands out a cut row, and then what stands after it
 -- Assumes nothing.
 use mathlib.Core.Path.{_≡_, refl, sym, ap, subst, _∙_}
-use mathlib.Core.Bool.{Bool, true, false}
 use mathlib.Core.List.{List, [], _∷_, _++_, append-assoc}
 use Prim.Native.Nat.{ℕ, zero, suc, _+_, _-_, _^_, _≤_, _<_}
 use native.Mathlib.Nat.{not-suc-le-zero, le-of-suc-le-suc}
 use native.Mathlib.Omega.{arith}
-use lib.Dec.{ltb}
 use lib.ListN.{length, drop, length-append}
 use lib.Seq.{drop-append-seam, drop-drop}
-use borrow.Author.Tests.{lt-ltb, ltb-true}
-use Rattle.numbers.specs.Pick.{pick}
-use Rattle.numbers.specs.Size.{Below}
+use borrow.Author.Tests.{lt-ltb}
 use Rattle.grammar.specs.Table.{nodes}
 use Rattle.grammar.specs.Verdict.{verdict}
 use Rattle.grammar.specs.declared.refusal.Refusal.{Refusal}
-use Rattle.grammar.specs.declared.refusal.Refusal.the-variants.{NumberTooLarge}
 use Rattle.grammar.specs.declared.refusal.Verdict.the-variants.{Accepted}
 use Rattle.grammar.specs.Rule.{Rule}
-use Rattle.grammar.specs.Sizes.{sizeAt, sizes, rulesOf}
+use Rattle.grammar.specs.Sizes.{rulesOf}
 use Rattle.walk.specs.Walk.{cells, depth}
 use Rattle.walk.specs.Room.{Case, most}
-use Rattle.walk.specs.Run.{Read, read, wrong, run}
-use Rattle.walk.proofs.Only.{only}
+use Rattle.walk.specs.Run.{run}
 use Rattle.checked.specs.Fits.{caseCells, Asked, fitted}
 use Rattle.checked.specs.Item.{Front, number, refused, frontOf, front}
 use Rattle.checked.specs.declared.fits.Fit.the-variants.{Cells}
 use Rattle.checked.proofs.Fitted.{cells-map, fitted-is, fitted-cells}
-use Rattle.cases.proofs.Meaning.{accepted-checked}
-use Rattle.cases.proofs.BothSides.{case-some, reads-on}
+use Rattle.cases.proofs.WalkAnswers.{front-number}
+use Rattle.cases.proofs.BothSides.{case-some, reads-most, read-case}
 use Rattle.rows.specs.WriteRow.{onward, inTurn, rowOf}
-use Rattle.rows.specs.ReadRow.{Gathered, all, stopped, after, gather, full}
+use Rattle.rows.specs.ReadRow.{Gathered, all, stopped, after, gather, full, answered, gotten}
 use Rattle.rows.specs.ReadRow as Rows-read
 use Rattle.rows.specs.Reader.{next, nextOf, afterOf, strideOf}
 use Rattle.rows.specs.Cut.{Cut, none, item, joined, handOut, asks}
@@ -43,7 +37,7 @@ use Rattle.rows.specs.declared.answer.Row.the-variants.{Done}
 use Rattle.rows.specs.declared.reader.Next.{Next}
 use Rattle.rows.specs.declared.reader.Next.the-variants.{Item, Refused}
 use Rattle.rows.proofs.WrittenInTurn.{onward-done}
-use Rattle.rows.proofs.Gathering.{gather-none, gather-full, gather-more}
+use Rattle.rows.proofs.Gathering.{gather-none, gather-full, gather-more, answered-all}
 use Rattle.checked.proofs.Opens.{opens}
 use Rattle.rows.proofs.Calls.{next-some}
 
@@ -56,19 +50,6 @@ cases-same none none = refl
 cases-same (item q c k) (item q' c' k') = cc (same-case c c', cases-same k k')
 
 -- ---- answers turned round
-front-number : (w : Read) {n : ℕ} {rest : List ℕ} → frontOf w ≡ number n rest → (q : ℕ) × (w ≡ read n q rest) × (n < 2 ^ 62)
-unfolding frontOf
-front-number (read m q ds) {n} {rest} e = by (ltb m (2 ^ 62)) refl e
-  where
-    by : (b : Bool) → ltb m (2 ^ 62) ≡ b → pick b (number m ds) (refused NumberTooLarge) ≡ number n rest
-        → (q' : ℕ) × (read m q ds ≡ read n q' rest) × (n < 2 ^ 62)
-    by true u v =
-        let s : m ≡ n = cc in
-        let s' : ds ≡ rest = cc in
-        (q, rw (s, s'), omega (arith, ltb-true m (2 ^ 62) u))
-    by false u v = let z : _≡_ {A = ℕ} 0 1 = cc in absurd (omega arith)
-front-number (wrong r) e = let z : _≡_ {A = ℕ} 0 1 = cc in absurd (omega arith)
-
 full-not : (f : Front) {ns : List ℕ} → full f ≡ all ns → ⊥
 full-not (number n rest) e = let z : _≡_ {A = ℕ} 0 1 = cc in omega arith
 full-not (refused r) e = let z : _≡_ {A = ℕ} 0 1 = cc in omega arith
@@ -89,14 +70,24 @@ onward-all : (f : Front) (rest : List ℕ → Gathered) {ns : List ℕ} → Rows
 onward-all (number n ds) rest e = let (ms, u, v) = after-all n (rest ds) e in (n, ds, ms, refl, u, v)
 onward-all (refused r) rest e = let z : _≡_ {A = ℕ} 0 1 = cc in absurd (omega arith)
 
+-- a row of no cells
+gathered-none : (g : ℕ → Rule) (i room : ℕ) {ns : List ℕ} → gather g i room [] ≡ all ns → [] ≡ ns
+gathered-none g i room {ns} e = let f : all [] ≡ all ns = sym (gather-none g i room) ∙ e in cc
+
 -- no more numbers are read than there is room for
-pub gathered-fits : (g : ℕ → Rule) (i room : ℕ) (cs : List ℕ) {ns : List ℕ} → gather g i room cs ≡ all ns → length ns ≤ room
-gathered-fits g i zero [] {ns} e = let f : all [] ≡ all ns = sym (gather-none g i 0) ∙ e in let s : [] ≡ ns = cc in rw (← s) (omega arith)
+gathered-fits : (g : ℕ → Rule) (i room : ℕ) (cs : List ℕ) {ns : List ℕ} → gather g i room cs ≡ all ns → length ns ≤ room
+gathered-fits g i zero [] e = rw (← gathered-none g i 0 e) (omega arith)
 gathered-fits g i zero (c ∷ cs) e = absurd (full-not (front g i (c ∷ cs)) (sym (gather-full g i (c ∷ cs) (omega arith)) ∙ e))
-gathered-fits g i (suc room) [] {ns} e = let f : all [] ≡ all ns = sym (gather-none g i (suc room)) ∙ e in let s : [] ≡ ns = cc in rw (← s) (omega arith)
-gathered-fits g i (suc room) (c ∷ cs) {ns} e =
+gathered-fits g i (suc room) [] e = rw (← gathered-none g i (suc room) e) (omega arith)
+gathered-fits g i (suc room) (c ∷ cs) e =
     let (n, ds, ms, u, v, w) = onward-all (front g i (c ∷ cs)) (λ rest. gather g i room rest) (sym (gather-more g i room (c ∷ cs) (omega arith)) ∙ e) in
     omega (arith, ap length w, gathered-fits g i room ds v)
+
+pub gathered-size : (g : ℕ → Rule) (i room : ℕ) (cs : List ℕ) (used : ℕ) {m c : ℕ} → answered used (gather g i room cs) ≡ Done m c
+    → (m ≡ length (gotten (gather g i room cs))) × (m ≤ room)
+gathered-size g i room cs used e =
+    let (ns, f, s, _) = answered-all used (gather g i room cs) e in
+    (sym s ∙ ap (λ (x : Gathered). length (gotten x)) (sym f), omega (arith, gathered-fits g i room cs f))
 
 module _ (t p : List ℕ) (a : verdict t p ≡ Accepted) (i : ℕ) (l : i < nodes t) where
   abbrev g : ℕ → Rule
@@ -110,16 +101,10 @@ module _ (t p : List ℕ) (a : verdict t p ≡ Accepted) (i : ℕ) (l : i < node
   pub front-case : {n : ℕ} {cs : List ℕ} → Asked (g i .size) n → Case g i n cs → (rest : List ℕ) → front g i (cs ++ rest) ≡ number n rest
   unfolding frontOf
   front-case {n} {cs} q c rest =
-      let room : length cs + (most - length cs) ≡ most = omega (arith, c .few) in
-      let e : run g depth 0 i most (cs ++ rest) ≡ read n (most - length cs) rest = rw room at (reads-on t p a i l n cs rest (most - length cs) q c) in
-      rw (e, lt-ltb n (2 ^ 62) (q .small))
+      rw (reads-most t p a i l rest q c, lt-ltb n (2 ^ 62) (q .small))
 
   pub case-front : {n : ℕ} {cs rest : List ℕ} → front g i cs ≡ number n rest → (ws : List ℕ) × Asked (g i .size) n × Case g i n ws × (cs ≡ ws ++ rest)
-  case-front {n} {cs} {rest} e =
-      let (q, r, s) = front-number (run g depth 0 i most cs) e in
-      let good = accepted-checked t p a .good in
-      let (b, w) = only (sizeAt (sizes t p)) (nodes t) g good depth 0 i l most cs r in
-      (w .ws, record { below = subst (Below n) (good .sized i l) b; small = s }, record { shows = w .shows; few = omega (arith, w .room) }, w .stands)
+  case-front {cs = cs} e = let (q, r, s) = front-number (run g depth 0 i most cs) e in read-case t p a i l r s
 
   -- ---- writing
   pub turns-cut : {ns : List ℕ} {css : List (List ℕ)} (room : ℕ) → Cut g i ns css → length (joined css) ≤ room
@@ -151,17 +136,10 @@ module _ (t p : List ℕ) (a : verdict t p ≡ Accepted) (i : ℕ) (l : i < node
   gather-cut (suc room) (item {n} {ns} {cs} {css} q c k) f =
       rw (gather-more g i room (cs ++ joined css) (some-cells (joined css) q c), front-case q c (joined css), gather-cut room k (le-of-suc-le-suc f))
 
-  cut-none : (room : ℕ) (ns : List ℕ) → gather g i room [] ≡ all ns → (css : List (List ℕ)) × Cut g i ns css × (joined css ≡ [])
-  unfolding joined
-  cut-none room ns e =
-      let f : all [] ≡ all ns = sym (gather-none g i room) ∙ e in
-      let s : [] ≡ ns = cc in
-      ([], subst (λ (ms : List ℕ). Cut g i ms []) s none, refl)
-
   pub cut-gather : (room : ℕ) (cs ns : List ℕ) → gather g i room cs ≡ all ns → (css : List (List ℕ)) × Cut g i ns css × (joined css ≡ cs)
   unfolding joined
-  cut-gather zero [] ns e = cut-none zero ns e
-  cut-gather (suc room) [] ns e = cut-none (suc room) ns e
+  cut-gather zero [] ns e = ([], subst (λ (ms : List ℕ). Cut g i ms []) (gathered-none g i 0 e) none, refl)
+  cut-gather (suc room) [] ns e = ([], subst (λ (ms : List ℕ). Cut g i ms []) (gathered-none g i (suc room) e) none, refl)
   cut-gather zero (c ∷ cs) ns e = absurd (full-not (front g i (c ∷ cs)) (sym (gather-full g i (c ∷ cs) (omega arith)) ∙ e))
   cut-gather (suc room) (c ∷ cs) ns e =
       let (n, ds, ms, u, v, w) = onward-all (front g i (c ∷ cs)) (λ rest. gather g i room rest) (sym (gather-more g i room (c ∷ cs) (omega arith)) ∙ e) in

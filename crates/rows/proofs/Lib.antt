@@ -5,7 +5,8 @@ pub mod Calls
 pub mod WrittenInTurn
 pub mod Gathering
 pub mod Cuts
-pub mod Answers
 pub mod CountedRows
+pub mod Answers
+pub mod Slices
 pub mod Lent
 pub mod Asking

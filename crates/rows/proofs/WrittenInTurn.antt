@@ -116,12 +116,8 @@ module _ (g : ℕ → Rule) (i : ℕ) where
       pub laying-fits : {k : ℕ} → f ≡ Cells k → used + k ≤ length now
       laying-fits q = omega (arith, tallying-fits (h .tally) l fit-is q, h .tally .fits, laying-long)
 
-      after : List ℕ
-      after = take used now ++ (last ++ drop (length now - used) (drop used now))
-
-      after-long : length after ≡ length old
-      unfolding after
-      after-long =
+      pub laying-left : length (take used now ++ (last ++ drop (length now - used) (drop used now))) ≡ length old
+      laying-left =
           let q : part ≡ drop used now = p ∙ part-old used now in
           omega (
             arith,
@@ -147,13 +143,8 @@ module _ (g : ℕ → Rule) (i : ℕ) where
           }
 
       pub laying-stops : {r : Refusal} → f ≡ Not r → RowOver g i ns old (take used now ++ (last ++ drop (length now - used) (drop used now))) (Refused r 0 j)
-      unfolding after
-      laying-stops q = record {
-        is = tallying-stops (h .tally) l fit-is q;
-        long = after-long;
-        holds = λ m c x. let z : _≡_ {A = ℕ} 0 1 = cc in absurd
-            (omega arith);
-      }
+      laying-stops q =
+          record { is = tallying-stops (h .tally) l fit-is q; long = laying-left; holds = λ m c x. let z : _≡_ {A = ℕ} 0 1 = cc in absurd (omega arith) }
 
   -- ---- a row that is done
   pub onward-done : (f : Fit) (rest : ℕ → Row) {m c : ℕ} → onward f rest ≡ Done m c

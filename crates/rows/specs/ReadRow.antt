@@ -5,7 +5,6 @@
 --   GotItems    the same, and nothing changes in a buffer where it is refused
 --   readsRow    the answer for a table, its pool, a start node, a room and the cells; readRowSays its values
 --   GotRow      the answer and the buffer's last words, for every input
---   Gathers, numbersIn, Stores   a row that is read whole; its numbers, in the words of a plan, and a buffer that holds them
 -- Assumes nothing.
 use mathlib.Core.Path.{_≡_}
 use mathlib.Core.List.{List, [], _∷_}
@@ -15,7 +14,6 @@ use Rattle.grammar.specs.declared.refusal.Refusal.{Refusal}
 use Rattle.grammar.specs.declared.refusal.Refusal.the-variants.{NoRoom}
 use Rattle.grammar.specs.Rule.{Rule}
 use Rattle.grammar.specs.Sizes.{rulesOf}
-use Rattle.grammar.specs.Plan.{ruleIn}
 use Rattle.lists.specs.Filled.{over}
 use Rattle.checked.specs.Opening.{judged, opening}
 use Rattle.checked.specs.Item.{Front, number, refused, front}
@@ -76,16 +74,3 @@ pub record GotRow (t p : List ℕ) (i : ℕ) (cs old last : List ℕ) (r : Row) 
 pub record GotItems (g : ℕ → Rule) (i : ℕ) (cs old last : List ℕ) (r : Row) : Type 0 where
   pub is : r ≡ answered (length cs) (gather g i (length old) cs)
   pub holds : last ≡ leaves r (gotten (gather g i (length old) cs)) old
-
--- all its items are read
-pub record Gathers (x : Gathered) : Type 0 where
-  pub ns : List ℕ
-  pub is : x ≡ all ns
-
--- the numbers of a row, by the rules of a plan
-abbrev pub numbersIn : List ℕ → List ℕ → ℕ → ℕ → List ℕ → List ℕ
-numbersIn plan p i room cs = gotten (gather (ruleIn plan p) i room cs)
-
--- and they are stored
-abbrev pub Stores : List ℕ → List ℕ → ℕ → List ℕ → List ℕ → List ℕ → Type 0
-Stores plan p i cs old last = last ≡ over (numbersIn plan p i (length old) cs) old

@@ -1,11 +1,10 @@
 // From a row of cells to numbers.
 ghost use mathlib.Core.Path.{_≡_};
-ghost use lib.ListN.{length, set};
+ghost use lib.ListN.{set};
 ghost use Rattle.grammar.specs.Plan.{ruleIn};
 ghost use Rattle.checked.specs.Prepared.{Blank};
 ghost use Rattle.walk.specs.Plan.{Reading};
-ghost use Rattle.checked.specs.Kept.{Kept};
-ghost use Rattle.rows.specs.ReadRow.{gather, Gathers, NumbersOver, GotItems, GotRow, numbersIn, Stores};
+ghost use Rattle.rows.specs.ReadRow.{NumbersOver, GotItems, GotRow};
 use super::answer::Row;
 use checked::copy::copy;
 use checked::item::Item;
@@ -65,30 +64,8 @@ fn gather_row(
     Row::Done(items, at)
 }
 
-// The numbers that the deciding walks have kept; or else they are read again, over the buffer itself.
-fn settle_numbers(
-    pool: &[u64],
-    plan: &[u64],
-    start: usize,
-    cells: &[u64],
-    kept: &[u64],
-    count: usize,
-    numbers: &mut [u64],
-)
-    requires { ⌜ Reading (now plan) (now pool) start ⌝ }
-    requires { ⌜ Gathers (gather (ruleIn (now plan) (now pool)) start (length (now numbers)) (now cells)) ⌝ }
-    requires { ⌜ Kept (numbersIn (now plan) (now pool) start (length (now numbers)) (now cells)) (now kept) count (length (now numbers)) ⌝ }
-    ensures { λ _. ⌜ Stores (now (plan .entry)) (now (pool .entry)) start (now (cells .entry)) (now (numbers .entry)) (now (numbers .exit)) ⌝ }
-{
-    if count <= kept.len() {
-        copy(kept, count, numbers);
-        return;
-    }
-    gather_row(pool, plan, start, cells, numbers.len(), numbers);
-}
-
 // The call on an opened table decides over a buffer of its own, and stores only once the whole row is
-// known to be readable.
+// known to be readable: the numbers that it has kept, or else they are read again, over the buffer itself.
 fn read_items(
     pool: &[u64],
     plan: &[u64],
@@ -102,8 +79,11 @@ fn read_items(
 {
     match gather_row(pool, plan, start, cells, numbers.len(), scratch) {
         Row::Done(items, used) => {
-            settle_numbers(pool, plan, start, cells, scratch, items, numbers);
-            Row::Done(items, used)
+            if items <= scratch.len() {
+                copy(scratch, items, numbers);
+                return Row::Done(items, used);
+            }
+            gather_row(pool, plan, start, cells, numbers.len(), numbers)
         }
         Row::Refused(r, k, item) => Row::Refused(r, k, item),
     }

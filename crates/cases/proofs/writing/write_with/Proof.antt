@@ -1,8 +1,9 @@
 -- `cases::writing::write_with` opens, and writes one case.
 -- Assumes nothing.
 use borrow.Author.Needs.{needs}
-use Rattle.checked.proofs.Placing.{placed-long}
-use Rattle.cases.proofs.Calls.{wrote-refused, wrote-by}
+use Rattle.checked.proofs.Opens.{opened-reads}
+use Rattle.checked.proofs.Fitting.{placed-long}
+use Rattle.cases.proofs.Calls.{wrote-refused, wrote-cells, wrote-not}
 use Rattle.cases.proofs.writing.write_with.Statement.{statement}
 use Rattle.cases.proofs.writing.write_with.Tie as tie
 
@@ -13,19 +14,14 @@ write-with-spec =
     (λ c κs. search needs)
     (λ c. search needs)
     (λ c. search needs)
-    (λ c κs. let at-enum-told = c .before .before in let at-begin = at-enum-told .before .before .before .before in
-    at-begin .begin .ensures .ready (at-enum-told .enum-told .given .1) .reads)
+    (λ c κs. search (opened-reads))
     (λ c. search needs)
     (λ c. search needs)
     (λ c. search needs)
-    (λ c. let at-begin = c .before .before .before .before .before in wrote-refused (at-begin .begin .ensures) (c .before .r .given .1))
+    (λ c. search (wrote-refused))
     (λ c. search needs)
-    (λ c. let at-write-case = c .before .before .before .before .before in placed-long (at-write-case .write-case .ensures))
-    (λ c. let at-write-case = c .before .before .before .before .before in let at-enum-told = at-write-case .before .before .before in
-    let at-begin = at-enum-told .before .before .before .before in wrote-by (at-begin .begin .ensures) (at-enum-told .enum-told .given .1)
-    (at-write-case .write-case .ensures) (c .before .count .given .1))
+    (λ c. search (placed-long))
+    (λ c. search (wrote-cells))
     (λ c. search needs)
-    (λ c. let at-write-case = c .before .before .before .before .before in placed-long (at-write-case .write-case .ensures))
-    (λ c. let at-write-case = c .before .before .before .before .before in let at-enum-told = at-write-case .before .before .before in
-    let at-begin = at-enum-told .before .before .before .before in wrote-by (at-begin .begin .ensures) (at-enum-told .enum-told .given .1)
-    (at-write-case .write-case .ensures) (c .before .r2 .given .1)))
+    (λ c. search (placed-long))
+    (λ c. search (wrote-not)))

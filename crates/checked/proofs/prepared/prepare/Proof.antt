@@ -16,26 +16,13 @@ prepare-spec =
     (λ c. prepared-length _ _ _ (search tests))
     (λ c. prepared-length _ _ _ (search tests))
     (λ c. prepared-length _ _ _ (search tests))
-    (λ c κs. let d = c .before .before .before .before .before .before .before .before .pre in (omega arith, (d .clear, d .long (omega arith))))
+    (λ c κs. let at-pre = c .before .before .before .before .before .before .before .before in let d = at-pre .pre in
+    (omega arith, (d .clear, d .long (omega arith))))
     (λ c. search needs)
     (λ c. search needs)
-    (λ c κs. prepared-ready _ _ (c .before .before .before .before .before .before .before .before .before .before .if1 .left)
-    (c .before .before .before .before .before .before .before .before .before .if2 .left)
-    (c .before .before .before .before .before .before .before .before .if3 .left) (c .before .before .before .before .before .before .before .if4 .left)
-    (c .before .before .before .before .before .weigh-all .ensures) (c .before .enum-told .given .1))
+    (λ c κs. let at-weigh-all = c .before .before .before .before .before in
+    prepared-ready (at-weigh-all .weigh-all .ensures) (search needs) (c .before .enum-told .given .1))
     (λ c. search needs)
-    (λ c. prepared-fault _ _ (c .before .before .before .before .before .before .before .before .before .before .if1 .left)
-    (c .before .before .before .before .before .before .before .before .before .if2 .left)
-    (c .before .before .before .before .before .before .before .before .if3 .left) (c .before .before .before .before .before .before .before .if4 .left)
-    (c .before .before .before .before .before .weigh-all .ensures) (c .before .v .given .1))
+    (λ c. search (prepared-fault, needs))
     (λ c. search needs)
-    (λ c. prepared-cycles _ _ (c .before .before .before .before .before .before .before .before .before .before .before .if1 .left)
-    (c .before .before .before .before .before .before .before .before .before .before .if2 .left)
-    (c .before .before .before .before .before .before .before .before .before .if3 .left)
-    (c .before .before .before .before .before .before .before .before .if4 .left) (c .before .before .before .before .before .before .weigh-all .ensures)
-    (c .before .before .enum-told .given .1) (omega (
-      arith,
-      c .before .before .before .before .before .plan .given,
-      c .before .before .before .before .before .before .before .before .before .before .before .before .before .before .before .pre .short,
-    ))
-    (c .judge .ensures)))
+    (λ c. search (prepared-cycles, needs)))

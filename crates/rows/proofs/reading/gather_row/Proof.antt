@@ -23,24 +23,17 @@ gather-row-spec =
     Inv-loop
     μ-loop
     (λ c. storing-none _ _ _ _ _)
-    (λ c κs. let at-pre = c .before .before .before .before .before .before in (at-pre .pre, c .before .loop .inv .counts .within))
-    (λ c. search needs)
-    (λ c. let at-loop = c .before .before .before .before .before .before in same-length _ _ (at-loop .loop .inv))
-    (λ c. let at-n = c .before .before in let at-item-at = at-n .before .before in let at-loop-test = at-item-at .before in
-    let at-loop = at-loop-test .before in storing-full _ _ (at-loop .loop .inv) (at-loop-test .loop-test .taken) (at-item-at .item-at .ensures)
-    (at-n .n .given .1) (c .if1 .taken))
     (λ c κs. search needs)
-    (λ c. let at-if1 = c .before .before .before .before in let at-loop = at-if1 .before .before .before .before .before .before in
-    let at-fits = at-loop .before .before .before .before .before in omega (arith, at-if1 .if1 .left, at-fits .fits .room))
-    (λ c. let at-n = c .before .before .before .before .before .before in let at-item-at = at-n .before .before in
-    omega (arith, stood (at-item-at .item-at .ensures) (at-n .n .given .1) .1, stood (at-item-at .item-at .ensures) (at-n .n .given .1) .2))
-    (λ c. let at-keep = c .before .before in let at-if1 = at-keep .before .before in let at-n = at-if1 .before .before in
-    let at-item-at = at-n .before .before in let at-loop-test = at-item-at .before in let at-loop = at-loop-test .before in
-    storing-more _ _ (at-loop .loop .inv) (at-loop-test .loop-test .taken) (at-item-at .item-at .ensures) (at-n .n .given .1) (at-if1 .if1 .left)
-    (at-keep .keep .ensures))
     (λ c. search needs)
-    (λ c. let at-loop = c .before .before .before .before .before in same-length _ _ (at-loop .loop .inv))
-    (λ c. let at-item-at = c .before .before .before in let at-loop-test = at-item-at .before in let at-loop = at-loop-test .before in
-    storing-stops _ _ (at-loop .loop .inv) (at-loop-test .loop-test .taken) (at-item-at .item-at .ensures) (c .before .r .given .1))
-    (λ c. same-length _ _ (c .before .loop .inv))
-    (λ c. storing-done _ _ (c .before .loop .inv) (c .loop-test .left)))
+    (λ c. search (same-length))
+    (λ c. search (storing-full))
+    (λ c κs. search needs)
+    (λ c. search needs)
+    (λ c. let at-n = c .before .before .before .before .before .before in let at-item-at = at-n .before .before in
+    let s = stood (at-item-at .item-at .ensures) (at-n .n .given .1) in omega arith)
+    (λ c. search (storing-more))
+    (λ c. search needs)
+    (λ c. search (same-length))
+    (λ c. search (storing-stops))
+    (λ c. search (same-length))
+    (λ c. search (storing-done)))

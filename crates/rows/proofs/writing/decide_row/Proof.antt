@@ -24,21 +24,14 @@ decide-row-spec =
     (λ c. tallying-none _ _ _ _)
     (λ c. search needs)
     (λ c. search needs)
-    (λ c. let at-loop = c .before .before in at-loop .loop .inv .fits)
-    (λ c κs. let at-pre = c .before .before .before .before .before .before in at-pre .pre)
+    (λ c. search needs)
+    (λ c κs. search needs)
     (λ c. search needs)
     (λ c. let at-decided = c .before .before .before in let at-loop-test = at-decided .before .before in let at-loop = at-loop-test .before in
-    let at-fits = at-loop .before .before .before .before in omega (
-      arith,
-      tallying-fits _ _ (at-loop .loop .inv) (at-loop-test .loop-test .taken) (at-decided .decided .ensures) (c .before .k .given .1),
-      at-loop .loop .inv .fits,
-      at-fits .fits .room,
-    ))
+    omega (arith, tallying-fits _ _ (at-loop .loop .inv) (at-loop-test .loop-test .taken) (at-decided .decided .ensures) (c .before .k .given .1)))
     (λ c. search needs)
-    (λ c. omega arith)
-    (λ c. let at-decided = c .before .before .before in let at-loop-test = at-decided .before .before in let at-loop = at-loop-test .before in
-    tallying-more _ _ (at-loop .loop .inv) (at-loop-test .loop-test .taken) (at-decided .decided .ensures) (c .before .k .given .1))
     (λ c. search needs)
-    (λ c. let at-decided = c .before .before .before in let at-loop-test = at-decided .before .before in let at-loop = at-loop-test .before in
-    tallying-stops _ _ (at-loop .loop .inv) (at-loop-test .loop-test .taken) (at-decided .decided .ensures) (c .before .r .given .1))
-    (λ c. tallying-done _ _ (c .before .loop .inv) (c .loop-test .left)))
+    (λ c. search (tallying-more))
+    (λ c. search needs)
+    (λ c. search (tallying-stops))
+    (λ c. search (tallying-done)))

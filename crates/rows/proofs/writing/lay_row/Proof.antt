@@ -6,7 +6,7 @@ use Prim.Native.Nat.{_-_}
 use native.Mathlib.Omega.{arith}
 use lib.ListN.{length}
 use Rattle.grammar.specs.Plan.{ruleIn}
-use Rattle.rows.proofs.WrittenInTurn.{Laying, laying-none, laying-long, laying-within, laying-fits, laying-more, laying-stops, laying-done}
+use Rattle.rows.proofs.WrittenInTurn.{Laying, laying-none, laying-long, laying-within, laying-fits, laying-more, laying-left, laying-stops, laying-done}
 use Rattle.rows.proofs.writing.lay_row.Statement.{statement}
 use Rattle.rows.proofs.writing.lay_row.Tie as tie
 
@@ -25,32 +25,20 @@ lay-row-spec =
     (λ c. laying-none _ _ _ _)
     (λ c. search needs)
     (λ c. search needs)
-    (λ c. let at-loop = c .before .before in let at-good = at-loop .before .before .before .before .before in
-    omega (arith, laying-within _ _ (at-loop .loop .inv), laying-long _ _ (at-loop .loop .inv), at-good .good))
-    (λ c. let at-loop = c .before .before in laying-within _ _ (at-loop .loop .inv))
-    (λ c. let at-loop = c .before .before in laying-within _ _ (at-loop .loop .inv))
+    (λ c. let at-loop = c .before .before in omega (arith, laying-within _ _ (at-loop .loop .inv), laying-long _ _ (at-loop .loop .inv)))
+    (λ c. search (laying-within))
+    (λ c. search (laying-within))
     (λ c. let at-loop = c .before .before in omega (arith, laying-within _ _ (at-loop .loop .inv)))
-    (λ c κs. let at-pre = c .before .before .before .before .before .before .before .before in at-pre .pre)
+    (λ c κs. search needs)
     (λ c. search needs)
     (λ c. let at-fits2 = c .before .before .before .before .before in let at-loop-test = at-fits2 .before .before .before in
-    let at-loop = at-loop-test .before in let at-good = at-loop .before .before .before .before .before in
-    omega (
-      arith,
-      laying-fits _ _ (at-loop .loop .inv) (at-loop-test .loop-test .taken) refl (at-fits2 .fits2 .ensures) (c .before .k .given .1),
-      laying-long _ _ (at-loop .loop .inv),
-      at-good .good,
-    ))
+    let at-loop = at-loop-test .before in let good = at-loop .before .before .before .before .before .good in let long = laying-long _ _ (at-loop .loop .inv) in
+    omega (arith, laying-fits _ _ (at-loop .loop .inv) (at-loop-test .loop-test .taken) refl (at-fits2 .fits2 .ensures) (c .before .k .given .1)))
     (λ c. search needs)
-    (λ c. omega arith)
-    (λ c. let at-fits2 = c .before .before .before .before .before in let at-loop-test = at-fits2 .before .before .before in
-    let at-loop = at-loop-test .before in laying-more _ _ (at-loop .loop .inv) (at-loop-test .loop-test .taken) refl (at-fits2 .fits2 .ensures)
-    (c .before .k .given .1))
     (λ c. search needs)
-    (λ c. let at-fits2 = c .before .before .before .before .before in let at-loop-test = at-fits2 .before .before .before in
-    let at-loop = at-loop-test .before in laying-stops _ _ (at-loop .loop .inv) (at-loop-test .loop-test .taken) refl (at-fits2 .fits2 .ensures)
-    (c .before .r .given .1) .long)
-    (λ c. let at-fits2 = c .before .before .before .before .before in let at-loop-test = at-fits2 .before .before .before in
-    let at-loop = at-loop-test .before in laying-stops _ _ (at-loop .loop .inv) (at-loop-test .loop-test .taken) refl (at-fits2 .fits2 .ensures)
-    (c .before .r .given .1))
-    (λ c. laying-long _ _ (c .before .loop .inv))
-    (λ c. laying-done _ _ (c .before .loop .inv) (c .loop-test .left)))
+    (λ c. search (laying-more))
+    (λ c. search needs)
+    (λ c. search (laying-left))
+    (λ c. search (laying-stops))
+    (λ c. search (laying-long))
+    (λ c. search (laying-done)))
