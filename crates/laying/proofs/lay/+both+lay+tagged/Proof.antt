@@ -4,6 +4,7 @@
 use mathlib.Core.Path.{refl, _∙_}
 use Prim.Native.Nat.{ℕ, _+_, _*_, _<_}
 use native.Mathlib.Omega.{arith}
+use borrow.Author.Needs.{needs}
 use borrow.Fn.Kinds.{In}
 use borrow.Fn.PlainCycle.{Measures, is, falls, and}
 use lib.ListN.{length-set}
@@ -159,37 +160,37 @@ unfolding rules
       at-pre .pre .1 .1 .1,
       checked-by (visited (at-pre .pre .1 .0 .0)) (c .match .keys4) shift-small,
     ))
-    (λ c. let at-if1 = c .before .before .before .before .before in omega (arith, at-if1 .if1 .left))
+    (λ c. search needs)
     (λ c κs. let at-if1 = c .before .before .before .before .before .before in let at-pre = at-if1 .before .before in let v = at-pre .pre .1 .0 .0 in
     let k = c .before .match .keys4 in lay-shift _ (at-pre .pre .0) (at-if1 .if1 .left) (at-pre .pre .1 .1)
     (next-by v (items-by v k refl) .0) (raised-bare (checked-by (visited v) k shift-bare)) (checked-by (visited v) k shift-small))
     (λ c κs. let at-pre = c .before .before .before .before .before .before .before in let v = visited (at-pre .pre .1 .0 .0) in two-in v
     (parts-by v (c .match .keys5)))
-    (λ c. let at-if1 = c .before .before .before .before .before .before in omega (arith, at-if1 .if1 .left))
+    (λ c. search needs)
     (λ c κs. let at-match = c .before .before in let at-if1 = at-match .before .before .before .before .before in let at-pre = at-if1 .before .before in let
     v = at-pre .pre .1 .0 .0 in let near = at-pre .pre .1 .1 in to-tagged (at-pre .pre .0) (at-if1 .if1 .left) (near .0, near .2, near .3)
     (next-by v (items-by v (at-match .match .keys5) (c .before .step2 .ensures)) .0))
     (λ c κs. let at-pre = c .before .before .before .before .before .before .before in let v = visited (at-pre .pre .1 .0 .0) in let l = parts-by v
     (c .match .keys6) in (two-in v l, two-some v l))
-    (λ c. let at-if1 = c .before .before .before .before .before .before in omega (arith, at-if1 .if1 .left))
+    (λ c. search needs)
     (λ c κs. let at-match = c .before .before in let at-if1 = at-match .before .before .before .before .before in let at-pre = at-if1 .before .before in let
     v = at-pre .pre .1 .0 .0 in let n = next-by v (items-by v (at-match .match .keys6) (c .before .step3 .ensures)) in
     let near = at-pre .pre .1 .1 in to-both (at-pre .pre .0) (at-if1 .if1 .left) (near .0, near .2, near .3) (n .0) (n .1 .0))
     (λ c κs. let at-pre = c .before .before .before .before .before .before .before .before in let v = at-pre .pre .1 .0 .0 in
     ((choosing (visited v) (c .before .match .keys7) .words, v .walks .slight), dep-low v (c .before .match .keys7)))
-    (λ c. let at-if1 = c .before .before .before .before .before .before .before in omega (arith, at-if1 .if1 .left))
+    (λ c. search needs)
     (λ c κs. let at-match = c .before .before .before in let at-if1 = at-match .before .before .before .before .before in let at-pre = at-if1 .before .before
     in let v = at-pre .pre .1 .0 .0 in let n = next-by v (dep-items v (at-match .match .keys7) (c .before .step4 .ensures endless)) in
     let near = at-pre .pre .1 .1 in to-both (at-pre .pre .0) (at-if1 .if1 .left) (near .0, near .2, near .3) (n .0) (n .1 .0))
     (λ c κs. let at-pre = c .before .before .before .before .before .before .before in omega (arith, at-pre .pre .1 .1 .0))
-    (λ c. let at-if1 = c .before .before .before .before .before .before in omega (arith, at-if1 .if1 .left))
+    (λ c. search needs)
     (λ c κs. let at-match = c .before .before in let at-if1 = at-match .before .before .before .before .before in let at-pre = at-if1 .before .before in let
     v = at-pre .pre .1 .0 .0 in lay-part _ (at-pre .pre .0) (at-if1 .if1 .left) (at-pre .pre .1 .1) (next-by v
     (items-by v (at-match .match .keys8) (part-at (c .before .split .ensures))) .0))
-    (λ c. let at-if1 = c .before .before .before .before .before in omega (arith, at-if1 .if1 .left))
+    (λ c. search needs)
     (λ c κs. let at-if1 = c .before .before .before .before .before .before in let at-pre = at-if1 .before .before in let v = at-pre .pre .1 .0 .0 in lay-part
     _ (at-pre .pre .0) (at-if1 .if1 .left) (at-pre .pre .1 .1) (next-by v (items-by v (c .before .match .keys9) refl) .0))
-    (λ c. let at-if1 = c .before .before .before .before .before in omega (arith, at-if1 .if1 .left))
+    (λ c. search needs)
     (λ c κs. let at-if1 = c .before .before .before .before .before .before in let at-pre = at-if1 .before .before in let v = at-pre .pre .1 .0 .0 in lay-part
     _ (at-pre .pre .0) (at-if1 .if1 .left) (at-pre .pre .1 .1) (next-by v (items-by v (c .before .match .keys10) refl) .0))
     (λ c. let at-put = c .before .before in at-put .put .ensures .long)
@@ -241,7 +242,7 @@ unfolding rules
     (λ c. let at-pre = c .before .before .before .before .before .before .before in absurd (known (visited (at-pre .pre .1 .0 .0)) (c .match .rest))))
     (λ t. tagged-lts.spec (lay-below t, lay.Post) (tagged-at t) tagged.Post
     (λ c. laid-none _ _ (c .if1 .taken))
-    (λ c. omega (arith, c .if1 .left))
+    (λ c. search needs)
     (λ c. simp length-set (omega (arith, c .if1 .left)))
     (λ c. simp length-set (omega (arith, c .if1 .left)))
     (λ c. simp length-set (omega (arith, c .if1 .left)))

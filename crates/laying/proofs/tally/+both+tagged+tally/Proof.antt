@@ -4,6 +4,7 @@
 use mathlib.Core.Path.{refl, _∙_}
 use Prim.Native.Nat.{ℕ, _+_, _*_, _<_}
 use native.Mathlib.Omega.{arith}
+use borrow.Author.Needs.{needs}
 use borrow.Fn.Kinds.{In}
 use borrow.Fn.PlainCycle.{Measures, is, falls, and}
 use Rattle.walk.proofs.Rooms.{tallied-deep, tallied-full, tallied-cell, left-within, two-stops, two-left}
@@ -89,7 +90,7 @@ unfolding rules
     (λ c. let at-tally = c .before .before in two-left _ _ _ _ (at-tally .tally .ensures) (c .before .if1 .left) (c .tally2 .ensures)))
     (λ t. tagged-lts.spec (tally-below t, tally.Post) (tagged-at t) tagged.Post
     (λ c. tallied-full _ _ _ (c .if1 .taken))
-    (λ c. omega (arith, c .if1 .left))
+    (λ c. search needs)
     (λ c κs. let p = c .before .pre in (omega (arith, p .0), (p .1 .0, (p .1 .1 .0, p .1 .1 .1, omega (arith, p .1 .1 .2)))))
     (λ c. c .tally .ensures ∙ tallied-cell _ _ _ (c .before .if1 .left)))
     (λ t. tally-lts.spec (calls t) (tally-at t) tally.Post
@@ -108,17 +109,17 @@ unfolding rules
     (λ c κs. let at-pre = c .before .before .before .before .before .before in at-pre .pre .1 .1 .2)
     (λ c κs. let at-pre = c .before .before .before .before .before .before in at-pre .pre .1 .1 .2)
     (λ c κs. let at-pre = c .before .before .before .before .before .before in at-pre .pre .1 .1 .2)
-    (λ c. let at-if1 = c .before .before .before .before .before in omega (arith, at-if1 .if1 .left))
+    (λ c. search needs)
     (λ c κs. let at-if1 = c .before .before .before .before .before in let at-pre = at-if1 .before in tally-part (at-pre .pre .0) (at-if1 .if1 .left)
     (at-pre .pre .1 .1) (next-by (at-pre .pre .1 .0) (items-by (at-pre .pre .1 .0) (c .match .keys4) refl) .0))
     (λ c κs. let at-pre = c .before .before .before .before .before .before in let v = visited (at-pre .pre .1 .0) in two-in v (parts-by v (c .match .keys5)))
-    (λ c. let at-if1 = c .before .before .before .before .before .before in omega (arith, at-if1 .if1 .left))
+    (λ c. search needs)
     (λ c κs. let at-if1 = c .before .before .before .before .before .before in let at-pre = at-if1 .before in to-tagged (at-pre .pre .0)
     (at-if1 .if1 .left) (at-pre .pre .1 .1)
     (next-by (at-pre .pre .1 .0) (items-by (at-pre .pre .1 .0) (c .before .match .keys5) (c .step .ensures)) .0))
     (λ c κs. let at-pre = c .before .before .before .before .before .before in let v = visited (at-pre .pre .1 .0) in let l = parts-by v (c .match .keys6)
     in (two-in v l, two-some v l))
-    (λ c. let at-if1 = c .before .before .before .before .before .before in omega (arith, at-if1 .if1 .left))
+    (λ c. search needs)
     (λ c κs. let at-if1 = c .before .before .before .before .before .before in let at-pre = at-if1 .before in let n = next-by (at-pre .pre .1 .0)
     (items-by (at-pre .pre .1 .0) (c .before .match .keys6) (c .step2 .ensures)) in
     to-both (at-pre .pre .0) (at-if1 .if1 .left) (at-pre .pre .1 .1) (n .0) (n .1 .0))
@@ -130,18 +131,18 @@ unfolding rules
       ),
       dep-low (at-pre .pre .1 .0) (c .before .match .keys7),
     ))
-    (λ c. let at-if1 = c .before .before .before .before .before .before .before in omega (arith, at-if1 .if1 .left))
+    (λ c. search needs)
     (λ c κs. let at-match = c .before .before in let at-if1 = at-match .before .before .before .before .before in let at-pre = at-if1 .before in
     let n = next-by (at-pre .pre .1 .0) (dep-items (at-pre .pre .1 .0) (at-match .match .keys7) (c .step3 .ensures endless)) in
     to-both (at-pre .pre .0) (at-if1 .if1 .left) (at-pre .pre .1 .1) (n .0) (n .1 .0))
     (λ c κs. let at-pre = c .before .before .before .before .before .before in omega (arith, at-pre .pre .1 .1 .0))
-    (λ c. let at-if1 = c .before .before .before .before .before .before in omega (arith, at-if1 .if1 .left))
+    (λ c. search needs)
     (λ c κs. let at-if1 = c .before .before .before .before .before .before in let at-pre = at-if1 .before in tally-part (at-pre .pre .0) (at-if1 .if1 .left)
     (at-pre .pre .1 .1) (next-by (at-pre .pre .1 .0) (items-by (at-pre .pre .1 .0) (c .before .match .keys8) (part-at (c .split .ensures))) .0))
-    (λ c. let at-if1 = c .before .before .before .before .before in omega (arith, at-if1 .if1 .left))
+    (λ c. search needs)
     (λ c κs. let at-if1 = c .before .before .before .before .before in let at-pre = at-if1 .before in tally-part (at-pre .pre .0) (at-if1 .if1 .left)
     (at-pre .pre .1 .1) (next-by (at-pre .pre .1 .0) (items-by (at-pre .pre .1 .0) (c .match .keys9) refl) .0))
-    (λ c. let at-if1 = c .before .before .before .before .before in omega (arith, at-if1 .if1 .left))
+    (λ c. search needs)
     (λ c κs. let at-if1 = c .before .before .before .before .before in let at-pre = at-if1 .before in tally-part (at-pre .pre .0) (at-if1 .if1 .left)
     (at-pre .pre .1 .1) (next-by (at-pre .pre .1 .0) (items-by (at-pre .pre .1 .0) (c .match .keys10) refl) .0))
     (λ c. let at-if1 = c .before .before .before .before .before .before in let at-pre = at-if1 .before in tally-any _

@@ -207,7 +207,7 @@ unfolding rules
       ),
       (at-pre .pre .1 .1 .2, at-pre .pre .1 .1 .3),
     ))
-    (λ c. let at-if1 = c .before .before .before .before .before in omega (arith, at-if1 .if1 .left))
+    (λ c. search needs)
     (λ c. let at-pre = c .before .before .before .before .before .before in omega (
       arith,
       at-pre .pre .1 .1 .1,
@@ -216,25 +216,25 @@ unfolding rules
     (λ c κs. let at-if1 = c .before .before .before .before .before .before in let at-pre = at-if1 .before in visit-shift (at-pre .pre .0) (at-if1 .if1 .left)
     _ _ (at-pre .pre .1 .1) (checked-by (at-pre .pre .1 .0) (c .before .match .keys4) shift-small)
     (reads-one (at-pre .pre .1 .0) (parts-by (at-pre .pre .1 .0) (c .before .match .keys4))))
-    (λ c. let at-if1 = c .before .before .before .before .before in omega (arith, at-if1 .if1 .left))
+    (λ c. search needs)
     (λ c κs. let at-if1 = c .before .before .before .before .before .before in let at-pre = at-if1 .before in visit-tagged (at-pre .pre .0)
     (at-if1 .if1 .left) _ _ (at-pre .pre .1 .1) (reads-two (at-pre .pre .1 .0) (parts-by (at-pre .pre .1 .0) (c .before .match .keys5))))
-    (λ c. let at-if1 = c .before .before .before .before .before in omega (arith, at-if1 .if1 .left))
+    (λ c. search needs)
     (λ c κs. let at-if1 = c .before .before .before .before .before .before in let at-pre = at-if1 .before in visit-shape (at-pre .pre .0) (at-if1 .if1 .left)
     _ _ (at-pre .pre .1 .1) (reads-two (at-pre .pre .1 .0) (parts-by (at-pre .pre .1 .0) (c .before .match .keys6))))
-    (λ c. let at-if1 = c .before .before .before .before .before in omega (arith, at-if1 .if1 .left))
+    (λ c. search needs)
     (λ c κs. let at-if1 = c .before .before .before .before .before .before in let at-pre = at-if1 .before in visit-shape (at-pre .pre .0) (at-if1 .if1 .left)
     _ _ (at-pre .pre .1 .1) (choosing (at-pre .pre .1 .0) (c .before .match .keys7)))
-    (λ c. let at-if1 = c .before .before .before .before .before in omega (arith, at-if1 .if1 .left))
+    (λ c. search needs)
     (λ c κs. let at-if1 = c .before .before .before .before .before .before in let at-pre = at-if1 .before in visit-shape (at-pre .pre .0) (at-if1 .if1 .left)
     _ _ (at-pre .pre .1 .1) (
       reads-one (at-pre .pre .1 .0) (parts-by (at-pre .pre .1 .0) (c .before .match .keys8)),
       checked-by (at-pre .pre .1 .0) (c .before .match .keys8) except-small,
     ))
-    (λ c. let at-if1 = c .before .before .before .before .before in omega (arith, at-if1 .if1 .left))
+    (λ c. search needs)
     (λ c κs. let at-if1 = c .before .before .before .before .before .before in let at-pre = at-if1 .before in visit-part (at-pre .pre .0) (at-if1 .if1 .left)
     _ _ (at-pre .pre .1 .1) (reads-one (at-pre .pre .1 .0) (parts-by (at-pre .pre .1 .0) (c .before .match .keys9))))
-    (λ c. let at-if1 = c .before .before .before .before .before in omega (arith, at-if1 .if1 .left))
+    (λ c. search needs)
     (λ c κs. let at-if1 = c .before .before .before .before .before .before in let at-pre = at-if1 .before in visit-part (at-pre .pre .0) (at-if1 .if1 .left)
     _ _ (at-pre .pre .1 .1) (reads-one (at-pre .pre .1 .0) (parts-by (at-pre .pre .1 .0) (c .before .match .keys10))))
     (λ c. let at-match = c .before .before in let at-if1 = at-match .before .before .before .before .before in let at-pre = at-if1 .before in
