@@ -45,17 +45,3 @@ decimal-some n = by (ltb n 10) refl
     by : (q : Bool) → ltb n 10 ≡ q → 0 < length (decimal n)
     by true e = omega (arith, ap length (decimal-digit n (ltb-true n 10 e)))
     by false e = omega (arith, length-more n (ltb-false n 10 e))
-
--- ---- what holds of every text, from one digit to one more
-module _ (P : ℕ → List ℕ → Type 0) (digit : (n : ℕ) → n < 10 → P n ((48 + n) ∷ []))
-    (more : (n : ℕ) (ds : List ℕ) → 10 ≤ n → P (n / 10) ds → P n (ds ++ ((48 + n % 10) ∷ []))) where
-  by-digits : (f n : ℕ) → n < f → P n (decimal n)
-  by-digits zero n h = absurd (omega arith)
-  by-digits (suc f) n h = by (ltb n 10) refl (λ m l. by-digits f m l)
-    where
-      by : (q : Bool) → ltb n 10 ≡ q → ((m : ℕ) → m < f → P m (decimal m)) → P n (decimal n)
-      by true e r = let l = ltb-true n 10 e in rw (decimal-digit n l) (digit n l)
-      by false e r = let l = ltb-false n 10 e in rw (decimal-more n l) (more n (decimal (n / 10)) l (r (n / 10) (omega arith)))
-
-  pub decimal-by : (n : ℕ) → P n (decimal n)
-  decimal-by n = by-digits (suc n) n (omega arith)
