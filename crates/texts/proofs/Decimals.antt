@@ -2,11 +2,12 @@
 --   decimal-digit    a number below ten is one digit
 --   decimal-more     any other is the text of its tenth, and the last digit
 --   decimal-some     it has a digit
+--   decimal-size     a word has at most 20 digits
 -- Assumes nothing.
 use mathlib.Core.Path.{_≡_, refl, ap, _∙_}
 use mathlib.Core.Bool.{Bool, true, false}
 use mathlib.Core.List.{List, [], _∷_, _++_}
-use Prim.Native.Nat.{ℕ, zero, suc, _+_, _/_, _%_, _≤_, _<_}
+use Prim.Native.Nat.{ℕ, zero, suc, _+_, _*_, _/_, _%_, _^_, _≤_, _<_}
 use native.Mathlib.Omega.{arith}
 use lib.Dec.{ltb}
 use lib.ListN.{length, length-append}
@@ -45,3 +46,22 @@ decimal-some n = by (ltb n 10) refl
     by : (q : Bool) → ltb n 10 ≡ q → 0 < length (decimal n)
     by true e = omega (arith, ap length (decimal-digit n (ltb-true n 10 e)))
     by false e = omega (arith, length-more n (ltb-false n 10 e))
+
+-- ---- how long the texts of words are
+-- ten to the power k + 1
+ten : ℕ → ℕ
+ten zero = 10
+ten (suc k) = 10 * ten k
+
+digits-up-to : (k n : ℕ) → n < ten k → length (decimal n) ≤ suc k
+unfolding ten
+digits-up-to zero n h = omega (arith, ap length (decimal-digit n h))
+digits-up-to (suc k) n h = by (ltb n 10) refl (λ l. digits-up-to k (n / 10) l)
+  where
+    by : (q : Bool) → ltb n 10 ≡ q → (n / 10 < ten k → length (decimal (n / 10)) ≤ suc k) → length (decimal n) ≤ suc (suc k)
+    by true e r = omega (arith, ap length (decimal-digit n (ltb-true n 10 e)))
+    by false e r = omega (arith, length-more n (ltb-false n 10 e), r (omega arith))
+
+pub decimal-size : (n : ℕ) → n < 2 ^ 64 → length (decimal n) ≤ 20
+unfolding ten
+decimal-size n h = digits-up-to 19 n (omega arith)

@@ -4,12 +4,12 @@ use borrow.Author.Needs.{needs}
 use native.Mathlib.Omega.{arith}
 use Rattle.texts.proofs.page.Putting.{told}
 use Rattle.asking.proofs.Taking.{no-row, row-fits, room-within, room-lent, row-text}
-use Rattle.row_calls.specs.ReadRow.{readRowCall}
+use Rattle.row_calls.specs.ReadRow.{readRowText, readRowCall}
 use Rattle.row_calls.proofs.read_row.answer.Statement.{statement}
 use Rattle.row_calls.proofs.read_row.answer.Tie as tie
 
 pub answer-spec : {M : Type 1} → statement M
-unfolding readRowCall
+unfolding readRowText readRowCall
 answer-spec =
     tie.close
     (tie.spec
