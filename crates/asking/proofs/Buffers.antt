@@ -1,5 +1,5 @@
 -- The words of a lent buffer.
---   Filling, fill-none, fill-more, fill-all      start words, one by one
+--   filled-length, Filling, fill-none, fill-more, fill-all    start words, one by one
 --   Looking, look-..                             words that have not changed
 --   start-kept                                   start words that a call left have not
 --   end-changed, end-kept                        the end of a line
@@ -8,7 +8,7 @@
 use mathlib.Core.Path.{_≡_, refl, sym, ap, _∙_}
 use mathlib.Core.Bool.{Bool, true, false, not, _||_}
 use mathlib.Core.List.{List, _++_, append-nil}
-use Prim.Native.Nat.{ℕ, zero, suc, _+_, _-_, _≤_, _<_}
+use Prim.Native.Nat.{ℕ, zero, suc, _+_, _≤_, _<_}
 use native.Mathlib.Numerals.{add-one}
 use native.Mathlib.Omega.{arith}
 use lib.Dec.{eqb}
@@ -24,10 +24,14 @@ use Rattle.texts.specs.Page.{Puts}
 use Rattle.asking.specs.Texts.{endText}
 
 -- ---- start words, one by one
-pub start-length : (place count : ℕ) → length (startWords place count) ≡ count
+start-length : (place count : ℕ) → length (startWords place count) ≡ count
 unfolding startWords
 start-length place zero = refl
 start-length place (suc count) = ap suc (start-length (suc place) count)
+
+-- a buffer that was filled is as long as it was
+pub filled-length : (old : List ℕ) {filled : List ℕ} → filled ≡ startWords 0 (length old) → length filled ≡ length old
+filled-length old e = ap length e ∙ start-length 0 (length old)
 
 start-at : (place count i : ℕ) → i < count → getD (startWords place count) i 0 ≡ startWord (place + i)
 unfolding startWords
@@ -96,7 +100,7 @@ kept-from place count zero = let e : place + 0 ≡ place = omega arith in rw e (
 kept-from place zero (suc k) = refl
 kept-from place (suc count) (suc k) = let e : place + suc k ≡ suc place + k = omega arith in rw e (kept-from (suc place) count k)
 
-pub start-kept : (count k : ℕ) → changed k (drop k (startWords 0 count)) ≡ false
+start-kept : (count k : ℕ) → changed k (drop k (startWords 0 count)) ≡ false
 start-kept count k = let e : 0 + k ≡ k = omega arith in rw e at (kept-from 0 count k)
 
 -- ---- the end of a line

@@ -2,7 +2,7 @@
 --   cells-not, -none, -many, -some             START and a row of cells are taken, or not
 --   row-not, -few, -over, -some                START, ROOM and a row
 --   no-cells, cells-fit, cells-text            what a call prints, by what was taken
---   no-row, row-fits, room-within, row-text    the same with a room
+--   no-row, row-fits, room-within, room-lent, row-text    the same with a room
 -- Assumes nothing.
 use mathlib.Core.Path.{_≡_, refl, sym, ap, subst, _∙_}
 use mathlib.Core.Bool.{Bool, true, false, cond}
@@ -11,15 +11,15 @@ use Prim.Native.Nat.{ℕ, _+_, _-_, _≤_, _<_}
 use native.Mathlib.Omega.{arith}
 use lib.Dec.{leb}
 use lib.ListN.{length, getD, take, drop}
-use lib.Seq.{take-append-seam}
+use lib.Seq.{take-append-seam, length-take-le}
 use borrow.Author.Tests.{leb-false, le-leb, lt-leb}
 use Rattle.texts.specs.Line.{Reading, numbers, unreadable, within, ReadLine}
 use Rattle.texts.specs.Said.{unreadableText}
 use Rattle.texts.specs.declared.line.Line.{Line}
 use Rattle.texts.specs.declared.line.Line.the-variants.{Numbers, Unreadable as NoNumbers}
 use Rattle.texts.proofs.line.Answered.{readable-not, ReadNumbers, read-numbers, read-unreadable}
-use Rattle.asking.specs.Fields.{mostRow, mostRoom, mostFields, fieldsOf, CellsAsked, cells, noCells, cellsOf, withCells, cellsIn, CellsFit, TakesCells}
-use Rattle.asking.specs.Fields.{RowAsked, row, noRow, rowOf, withRow, rowIn, RowFits, TakesRow}
+use Rattle.asking.specs.Fields.{mostRow, mostRoom, mostFields, fieldsOf, cells, noCells, cellsOf, withCells, cellsIn, CellsFit, TakesCells}
+use Rattle.asking.specs.Fields.{row, noRow, rowOf, withRow, rowIn, RowFits, TakesRow}
 use Rattle.asking.specs.declared.fields.Cells.{Cells}
 use Rattle.asking.specs.declared.fields.Cells.the-variants.{Asked, Unreadable}
 use Rattle.asking.specs.declared.fields.Lent.{Lent}
@@ -153,6 +153,9 @@ module _ {rest old last : List ℕ} {r : Lent} (k : TakesRow rest old last r) wh
 
     pub room-within : {size : ℕ} → mostRoom ≤ size → room ≤ size
     room-within l = omega (arith, row-fits)
+
+    pub room-lent : (buffer : List ℕ) → mostRoom ≤ length buffer → room ≡ length (take room buffer)
+    room-lent buffer l = sym (length-take-le room buffer (room-within l))
 
     pub row-text : (f : ℕ → ℕ → List ℕ → List ℕ) → f i room (take (count - 2) (drop 2 last)) ≡ withRow f (rowOf (fieldsOf rest))
     row-text f = ap (withRow f) (ap (rowIn last) (sym e) ∙ k .asks)

@@ -1,5 +1,5 @@
 -- What calls print, as the table of calls.md has it.
---   numberText, numberLine           "`number N`"
+--   numberLine                       "`number N`"
 --   itemText                         "`number N, C cells` for each item"
 --   refusedItem                      "`refused R at K item I`"
 --   itemsText, cellsText             "`M items, C cells: c c c`"
@@ -16,14 +16,11 @@ use Rattle.texts.specs.Line.{spaced}
 use Rattle.texts.specs.Said.{refusedText}
 use Rattle.asking.specs.Buffer.{changed}
 
-unfoldable pub numberText : ℕ → List ℕ
-numberText n = bytes "number " ++ decimal n
-
 unfoldable pub numberLine : ℕ → List ℕ
-numberLine n = numberText n ++ bytes "\n"
+numberLine n = bytes "number " ++ decimal n ++ bytes "\n"
 
 unfoldable pub itemText : ℕ → ℕ → List ℕ
-itemText n k = numberText n ++ bytes ", " ++ decimal k ++ bytes " cells\n"
+itemText n k = bytes "number " ++ decimal n ++ bytes ", " ++ decimal k ++ bytes " cells\n"
 
 unfoldable pub refusedItem : Refusal → ℕ → ℕ → List ℕ
 refusedItem r k item = refusedText r k ++ bytes " item " ++ decimal item

@@ -3,7 +3,7 @@ ghost use mathlib.Core.List.{_++_};
 ghost use Prim.Native.Nat.{_≤_};
 ghost use lib.ListN.{length, take};
 ghost use Rattle.texts.specs.Page.{Puts};
-ghost use Rattle.asking.specs.Texts.{numberText, numberLine, itemText, refusedItem, itemsText, cellsText, endText};
+ghost use Rattle.asking.specs.Texts.{numberLine, itemText, refusedItem, itemsText, cellsText, endText};
 use super::buffer::changed_from;
 use grammar::refusal::Refusal;
 use texts::page::PAGE_BYTES;
@@ -12,18 +12,11 @@ use texts::page::put_numbers;
 use texts::page::put_text;
 use texts::said::refused;
 
-// The line is left open, since the reader prints the cells too.
-fn number(found: u64, page: &mut [u8; PAGE_BYTES], used: usize) -> usize
-    ensures { λ r. ⌜ Puts (numberText found) (now (page .entry)) used (now (page .exit)) r ⌝ }
-{
-    let named = put_text(b"number ", page, used);
-    put_number(found, page, named)
-}
-
 pub fn number_line(found: u64, page: &mut [u8; PAGE_BYTES], used: usize) -> usize
     ensures { λ r. ⌜ Puts (numberLine found) (now (page .entry)) used (now (page .exit)) r ⌝ }
 {
-    let said = number(found, page, used);
+    let named = put_text(b"number ", page, used);
+    let said = put_number(found, page, named);
     put_text(b"\n", page, said)
 }
 
@@ -31,7 +24,8 @@ pub fn number_line(found: u64, page: &mut [u8; PAGE_BYTES], used: usize) -> usiz
 pub fn item_line(found: u64, cells: usize, page: &mut [u8; PAGE_BYTES], used: usize) -> usize
     ensures { λ r. ⌜ Puts (itemText found cells) (now (page .entry)) used (now (page .exit)) r ⌝ }
 {
-    let said = number(found, page, used);
+    let named = put_text(b"number ", page, used);
+    let said = put_number(found, page, named);
     let parted = put_text(b", ", page, said);
     let counted = put_number(cells as u64, page, parted);
     put_text(b" cells\n", page, counted)

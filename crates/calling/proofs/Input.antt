@@ -13,13 +13,13 @@ use native.Mathlib.Numerals.{add-one}
 use native.Mathlib.Omega.{arith}
 use lib.Dec.{eqb}
 use lib.ListN.{length, getD, take, drop, length-drop, drop-of-length-le}
-use lib.Seq.{drop-cons, take-append-seam}
+use lib.Seq.{drop-cons}
 use borrow.Author.Tests.{eq-eqb, ne-eqb, le-leb, lt-leb, not-true, not-false}
 use Rattle.texts.specs.Ascii.{bytes}
 use Rattle.texts.specs.Line.{Reading, numbers, unreadable, lineAt, within, ReadLine}
 use Rattle.texts.specs.declared.line.Line.{Line}
 use Rattle.texts.specs.declared.line.Line.the-variants.{Numbers, Unreadable as NoLine}
-use Rattle.texts.proofs.line.Answered.{within-room, read-numbers, read-unreadable}
+use Rattle.texts.proofs.line.Answered.{read-numbers, read-within, read-front, read-unreadable}
 use Rattle.texts.specs.Page.{Puts}
 use Rattle.texts.specs.Said.{unreadableText}
 use Rattle.texts.proofs.page.Putting.{none, told, _then_}
@@ -55,11 +55,11 @@ size-past (b ∷ bs) h = by (eqb b 10)
     by false = omega arith
 
 module _ (text : List ℕ) (at : ℕ) where
-  pub after-past : at < length text → at < after text at
+  after-past : at < length text → at < after text at
   unfolding after
   after-past l = omega (arith, size-past (drop at text) (omega (arith, length-drop at text)))
 
-  pub after-within : at ≤ length text → after text at ≤ length text
+  after-within : at ≤ length text → after text at ≤ length text
   unfolding after
   after-within l = omega (arith, size-within (drop at text), length-drop at text)
 
@@ -106,9 +106,6 @@ half : (x : Reading) → bothRead x unreadable ≡ nothing
 half (numbers t next) = refl
 half unreadable = refl
 
-front : (old : List ℕ) {ns ws : List ℕ} {size : ℕ} → length ns ≡ size → ws ≡ ns ++ drop size old → take size ws ≡ ns
-front old {ns} e h = rw (h, ← e) (take-append-seam ns (drop (length ns) old))
-
 -- a state, by its fields
 abbrev Holds : State → ℕ → ℕ → Bool → ℕ → ℕ → Type 0
 Holds s at used known table pool = (s .at ≡ at) × (s .used ≡ used) × (s .known ≡ known) × (s .table ≡ table) × (s .pool ≡ pool)
@@ -146,15 +143,12 @@ module _ {text : List ℕ} {at middle next : ℕ} (m : middle ≡ after text at)
       table-both {count} {until} {few} {end} e f (to, waits, known, c, d) =
           let n = read-numbers k e in
           let o = read-numbers j f in
-          let u : within mostTableWords (lineAt text at) ≡ numbers (n .ns) until = ap (within mostTableWords) (n .is) ∙ within-room (n .ns) until
-          (omega (arith, n .size, n .room, wide)) in
-          let v : within mostPoolWords (lineAt text (after text at)) ≡ numbers (o .ns) end = ap (λ (k : ℕ). within mostPoolWords (lineAt text k)) (sym m) ∙ ap
-          (within mostPoolWords) (o .is) ∙ within-room (o .ns) end (omega (arith, o .size, o .room, deep)) in
-          let y : take count tableLast ≡ n .ns = front table (n .size) (n .leaves) in
-          let z : take few poolLast ≡ o .ns = front pool (o .size) (o .leaves) in
+          let u : within mostTableWords (lineAt text at) ≡ numbers (n .ns) until = rw wide at (read-within k e) in
+          let v : within mostPoolWords (lineAt text (after text at)) ≡ numbers (o .ns) end = ap (λ (i : ℕ). within mostPoolWords (lineAt text i)) (sym m) ∙
+          rw deep at (read-within j f) in
           record {
             to = to ∙ x ∙ ap (after text) m;
-            knows = rw (known, c, d, y, z, u, v);
+            knows = rw (known, c, d, read-front k e, read-front j f, u, v);
             puts = rw (u, v, waits) none;
             few = omega (arith, c, n .room, wide);
             small = omega (arith, d, o .room, deep);

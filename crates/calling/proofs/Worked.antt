@@ -21,7 +21,7 @@ use Rattle.texts.specs.Decimal.{decimalBy, decimal}
 use Rattle.texts.specs.Line.{ended, words, numberOf as numberOfWord, numbersOf, lineAt}
 use Rattle.texts.specs.Line.{spaced}
 use Rattle.texts.specs.Said.{unreadableText, refusedText, refusedLine}
-use Rattle.asking.specs.Texts.{numberText, numberLine, itemText, refusedItem, itemsText, cellsText}
+use Rattle.asking.specs.Texts.{numberLine, itemText, refusedItem, itemsText, cellsText}
 use Rattle.calling.specs.Line.{readable, wordSize}
 use Rattle.asking.specs.Same.{same}
 use Rattle.case_calls.specs.Check.{checkText, checkCall}
@@ -65,7 +65,7 @@ prints =
 
 worked : map asked prints ≡ map expected prints
 unfolding walking fitted opening frontOf wholeOf writes reads writesRow Written.inTurn Written.rowOf gather readsRow next nextOf run valueFrom
-    wellFormed numeral decimalBy decimal ended words numberOfWord numbersOf lineAt unreadableText numberText numberLine itemText refusedText
+    wellFormed numeral decimalBy decimal ended words numberOfWord numbersOf lineAt unreadableText numberLine itemText refusedText
     refusedLine refusedItem itemsText spaced cellsText readable wordSize same checkText checkCall foundText readText readCall writeText caseText alone
     writeCall rowText writeRowText writeRowCall readRowText readRowCall asksBy asksText readerCall chosen lineText lineSize after lineOf tableAt saidAt nextAt nextKnown printedBy printed
 worked = refl

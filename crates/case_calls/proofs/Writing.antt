@@ -20,13 +20,13 @@ use Rattle.texts.specs.Said.{unreadableText, refusedText, refusedLine}
 use Rattle.texts.proofs.page.Putting.{told}
 use Rattle.asking.specs.Buffer.{startWords}
 use Rattle.asking.specs.Texts.{cellsText, endText}
-use Rattle.asking.proofs.Buffers.{start-length, end-done, end-left}
+use Rattle.asking.proofs.Buffers.{filled-length, end-done, end-left}
 use Rattle.case_calls.specs.Write.{writeText, caseText, PrintsCase, alone}
 
 module _ {t p : List ℕ} {i n : ℕ} (old : List ℕ) {filled last : List ℕ} {r : Written} (start : filled ≡ startWords 0 (length old))
     (k : Wrote t p i n filled last r) where
   answer : r ≡ writes t p i n (length old)
-  answer = wrote-is k ∙ ap (writes t p i n) (ap length start ∙ start-length 0 (length old))
+  answer = wrote-is k ∙ ap (writes t p i n) (filled-length old start)
 
   left : (w : Written) → r ≡ w → last ≡ leaves w (cells (walk (rulesOf t p) depth 0 i n)) filled
   left w e = k .holds ∙ ap (λ (x : Written). leaves x (cells (walk (rulesOf t p) depth 0 i n)) filled) e

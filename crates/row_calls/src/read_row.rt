@@ -3,7 +3,10 @@ ghost use Prim.Native.Nat.{_≤_};
 ghost use lib.ListN.{length};
 ghost use Rattle.texts.specs.Page.{Puts};
 ghost use Rattle.asking.specs.Fields.{mostRoom};
-ghost use Rattle.row_calls.specs.ReadRow.{PrintsRead, readRowCall};
+ghost use Rattle.grammar.specs.Sizes.{rulesOf};
+ghost use Rattle.rows.specs.ReadRow.{gather, gotten, readsRow};
+ghost use Rattle.row_calls.specs.Row.{PrintsRow};
+ghost use Rattle.row_calls.specs.ReadRow.{readRowCall};
 use asking::answers::done_line;
 use asking::answers::refused_at_item;
 use asking::buffer::fill;
@@ -51,7 +54,9 @@ fn call(
     page: &mut [u8; PAGE_BYTES],
     used: usize,
 ) -> usize
-    ensures { λ r. ⌜ PrintsRead (now (table .entry)) (now (pool .entry)) start (now (cells .entry)) (now (numbers .entry)) (now (numbers .exit))
+    ensures { λ r. ⌜ PrintsRow
+        (gotten (gather (rulesOf (now (table .entry)) (now (pool .entry))) start (length (now (numbers .entry))) (now (cells .entry))))
+        (readsRow (now (table .entry)) (now (pool .entry)) start (length (now (numbers .entry))) (now (cells .entry))) (now (numbers .entry)) (now (numbers .exit))
         (now (page .entry)) used (now (page .exit)) r ⌝ }
 {
     fill(numbers);

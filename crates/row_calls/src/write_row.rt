@@ -3,7 +3,10 @@ ghost use Prim.Native.Nat.{_≤_};
 ghost use lib.ListN.{length};
 ghost use Rattle.texts.specs.Page.{Puts};
 ghost use Rattle.asking.specs.Fields.{mostRoom};
-ghost use Rattle.row_calls.specs.WriteRow.{PrintsWritten, writeRowCall};
+ghost use Rattle.grammar.specs.Sizes.{rulesOf};
+ghost use Rattle.rows.specs.WriteRow.{rowOf, writesRow};
+ghost use Rattle.row_calls.specs.Row.{PrintsRow};
+ghost use Rattle.row_calls.specs.WriteRow.{writeRowCall};
 use asking::answers::done_line;
 use asking::answers::refused_at_item;
 use asking::buffer::fill;
@@ -51,7 +54,8 @@ fn call(
     page: &mut [u8; PAGE_BYTES],
     used: usize,
 ) -> usize
-    ensures { λ r. ⌜ PrintsWritten (now (table .entry)) (now (pool .entry)) start (now (numbers .entry)) (now (cells .entry)) (now (cells .exit))
+    ensures { λ r. ⌜ PrintsRow (rowOf (rulesOf (now (table .entry)) (now (pool .entry))) start (now (numbers .entry)))
+        (writesRow (now (table .entry)) (now (pool .entry)) start (length (now (cells .entry))) (now (numbers .entry))) (now (cells .entry)) (now (cells .exit))
         (now (page .entry)) used (now (page .exit)) r ⌝ }
 {
     fill(cells);

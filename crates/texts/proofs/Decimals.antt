@@ -2,11 +2,12 @@
 --   decimal-digit    a number below ten is one digit
 --   decimal-more     any other is the text of its tenth, and the last digit
 --   decimal-some     it has a digit
+--   decimal-size     a word has at most 20 digits
 -- Assumes nothing.
 use mathlib.Core.Path.{_≡_, refl, ap, _∙_}
 use mathlib.Core.Bool.{Bool, true, false}
 use mathlib.Core.List.{List, [], _∷_, _++_}
-use Prim.Native.Nat.{ℕ, zero, suc, _+_, _/_, _%_, _≤_, _<_}
+use Prim.Native.Nat.{ℕ, zero, suc, _+_, _*_, _/_, _%_, _^_, _≤_, _<_}
 use native.Mathlib.Omega.{arith}
 use lib.Dec.{ltb}
 use lib.ListN.{length, length-append}
@@ -46,16 +47,21 @@ decimal-some n = by (ltb n 10) refl
     by true e = omega (arith, ap length (decimal-digit n (ltb-true n 10 e)))
     by false e = omega (arith, length-more n (ltb-false n 10 e))
 
--- ---- what holds of every text, from one digit to one more
-module _ (P : ℕ → List ℕ → Type 0) (digit : (n : ℕ) → n < 10 → P n ((48 + n) ∷ []))
-    (more : (n : ℕ) (ds : List ℕ) → 10 ≤ n → P (n / 10) ds → P n (ds ++ ((48 + n % 10) ∷ []))) where
-  by-digits : (f n : ℕ) → n < f → P n (decimal n)
-  by-digits zero n h = absurd (omega arith)
-  by-digits (suc f) n h = by (ltb n 10) refl (λ m l. by-digits f m l)
-    where
-      by : (q : Bool) → ltb n 10 ≡ q → ((m : ℕ) → m < f → P m (decimal m)) → P n (decimal n)
-      by true e r = let l = ltb-true n 10 e in rw (decimal-digit n l) (digit n l)
-      by false e r = let l = ltb-false n 10 e in rw (decimal-more n l) (more n (decimal (n / 10)) l (r (n / 10) (omega arith)))
+-- ---- how long the texts of words are
+-- ten to the power k + 1
+ten : ℕ → ℕ
+ten zero = 10
+ten (suc k) = 10 * ten k
 
-  pub decimal-by : (n : ℕ) → P n (decimal n)
-  decimal-by n = by-digits (suc n) n (omega arith)
+digits-up-to : (k n : ℕ) → n < ten k → length (decimal n) ≤ suc k
+unfolding ten
+digits-up-to zero n h = omega (arith, ap length (decimal-digit n h))
+digits-up-to (suc k) n h = by (ltb n 10) refl (λ l. digits-up-to k (n / 10) l)
+  where
+    by : (q : Bool) → ltb n 10 ≡ q → (n / 10 < ten k → length (decimal (n / 10)) ≤ suc k) → length (decimal n) ≤ suc (suc k)
+    by true e r = omega (arith, ap length (decimal-digit n (ltb-true n 10 e)))
+    by false e r = omega (arith, length-more n (ltb-false n 10 e), r (omega arith))
+
+pub decimal-size : (n : ℕ) → n < 2 ^ 64 → length (decimal n) ≤ 20
+unfolding ten
+decimal-size n h = digits-up-to 19 n (omega arith)

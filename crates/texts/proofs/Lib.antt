@@ -1,5 +1,4 @@
 -- What the proofs of more than one module cite.
 pub mod Fronts
 pub mod Decimals
-pub mod Sizes
 mod Worked

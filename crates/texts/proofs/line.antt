@@ -1,5 +1,4 @@
 -- The laws of lines, what callers know of a line that was read, and how it is read.
-pub mod ReadBack
 pub mod Answered
 mod Words
 mod Rest

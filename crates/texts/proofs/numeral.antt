@@ -1,5 +1,4 @@
 -- The laws of numerals, and how one is read.
-pub mod ReadBack
 pub mod Digits
 mod Runs
 mod Values

@@ -22,15 +22,11 @@ answer-spec =
     μ-loop
     (λ c κs. search needs)
     (λ c κs. search needs)
-    (λ c. let at-if1 = c .before .before in let at-readable = at-if1 .before in
-    told (answer-not _ (at-readable .readable .ensures) (at-if1 .if1 .taken)) (c .unreadable .ensures))
+    (λ c. told (search answer-not) (c .unreadable .ensures))
     (λ c κs. search needs)
     (λ c. answer-none (c .without-table .ensures))
     (λ c κs. let at-if2 = c .before .before .before .before .before in let at-loop = at-if2 .before .before in
     (at-loop .loop .inv .within, at-if2 .if2 .taken))
-    (λ c. let at-if2 = c .before .before .before .before .before .before in let at-loop = at-if2 .before .before in
-    answer-less (at-loop .loop .inv) (at-if2 .if2 .taken) (c .answer-line .ensures))
-    (λ c. let at-if2 = c .before .before .before .before .before .before in let at-loop = at-if2 .before .before in
-    answer-more (at-loop .loop .inv) (at-if2 .if2 .taken) (c .answer-line .ensures))
-    (λ c. let at-loop = c .before .before in let at-if1 = at-loop .before .before in let at-readable = at-if1 .before in
-    answer-all (at-loop .loop .inv) (at-readable .readable .ensures) (at-if1 .if1 .left) (c .if2 .left)))
+    (λ c. search answer-less)
+    (λ c. search answer-more)
+    (λ c. search answer-all))

@@ -14,17 +14,19 @@ answer-line-spec =
     (λ c κs. omega (arith, c .before .pre .1))
     (λ c. next-from _ _ (c .after .ensures))
     (λ c. next-from _ _ (c .after .ensures))
-    (λ c. let at-pre = c .before .before in next-within _ _ (c .after .ensures) (at-pre .pre .0 .start))
+    (λ c. search next-within)
     (λ c. search needs)
     (λ c κs. search needs)
-    (λ c κs. let at-after = c .before .before .before .before .before .before .before in let at-pre = at-after .before .before in
-    next-within _ _ (at-after .after .ensures) (at-pre .pre .0 .start))
-    (λ c. let at-if1 = c .before .before .before .before in let at-same = at-if1 .before in let at-after = at-same .before .before .before in
-    let at-pre = at-after .before .before in turn-table _ _ (at-pre .pre .1) (at-after .after .ensures) (at-same .same .ensures) (at-if1 .if1 .taken) (c
-    .take-table .ensures))
+    (λ c κs. search next-within)
+    (λ c. search turn-table)
     (λ c κs. let at-pre = c .before .before .before .before .before .before .before .before .before .before .before .before .before in
     (omega (arith, at-pre .pre .0 .table), omega (arith, at-pre .pre .0 .pool)))
     (λ c. let at-if1 = c .before .before .before .before .before .before .before .before in let at-same = at-if1 .before in
     let at-after = at-same .before .before .before in let at-pre = at-after .before .before in
-    turn-call _ _ (at-pre .pre .1) (at-after .after .ensures) (at-same .same .ensures) (at-if1 .if1 .left) (c .answer .ensures) (at-pre .pre .0)
-    (refl, refl, refl, refl, refl)))
+    turn-call _ _ (at-pre .pre .1) (at-after .after .ensures) (at-same .same .ensures) (at-if1 .if1 .left) (c .answer .ensures) (at-pre .pre .0) (
+      refl,
+      refl,
+      refl,
+      refl,
+      refl,
+    )))

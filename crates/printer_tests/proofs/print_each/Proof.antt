@@ -5,7 +5,7 @@ use Prim.Native.Nat.{_-_}
 use native.Mathlib.Omega.{arith}
 use mathlib.Core.Path.{sym, _∙_}
 use lib.ListN.{length}
-use Rattle.texts.proofs.numeral.ReadBack.{number-within}
+use Rattle.texts.proofs.numeral.Digits.{number-within}
 use Rattle.printer_tests.proofs.print_each.Statement.{statement}
 use Rattle.printer_tests.proofs.print_each.Tie as tie
 

@@ -13,7 +13,7 @@ use lib.Dec.{leb}
 use lib.ListN.{length}
 use borrow.Author.Tests.{le-leb, lt-leb, leb-false}
 use Rattle.texts.specs.Line.{Reading, numbers, unreadable, lineAt}
-use Rattle.texts.proofs.line.ReadBack.{line-within}
+use Rattle.texts.proofs.line.Answered.{line-within}
 use Rattle.printing.specs.Input.{alone, oneAt, further, numbersBy, numbersFrom, readable}
 use Rattle.printing.specs.declared.input.One.{One}
 use Rattle.printing.specs.declared.input.One.the-variants.{Number, Not}

@@ -1,19 +1,21 @@
 -- What is known of a reading and of a line that was read, by the answer.
 --   readable-not, within-back       an unreadable line has no numbers; those within the room are the line's
+--   line-within                     a line of numbers lies in the text
 --   ReadNumbers, read-numbers       the answer Numbers: these numbers stand in the line and at the front
 --   read-within, read-front         they are within the room, and those that are read there
 --   read-unreadable                 the answer Unreadable: nothing has changed
 -- Assumes nothing.
 use mathlib.Core.Path.{_≡_, refl, sym, ap, _∙_}
 use mathlib.Core.Bool.{Bool, true, false, cond}
-use mathlib.Core.List.{List, _++_}
-use Prim.Native.Nat.{ℕ, _≤_}
+use mathlib.Core.List.{List, [], _∷_, _++_}
+use mathlib.Core.Option.{Option, none, some, Option·map, Option·none-ne-some}
+use Prim.Native.Nat.{ℕ, _+_, _≤_, _<_}
 use native.Mathlib.Omega.{arith}
-use lib.Dec.{leb}
-use lib.ListN.{length, take, drop}
+use lib.Dec.{eqb, leb}
+use lib.ListN.{length, take, drop, length-drop}
 use lib.Seq.{take-append-seam}
 use borrow.Author.Tests.{leb-true, le-leb}
-use Rattle.texts.specs.Line.{Reading, numbers, unreadable, lineAt, within, answer, stored, ReadLine}
+use Rattle.texts.specs.Line.{Reading, numbers, unreadable, ended, lineNumbers, upTo, lineBy, lineAt, within, answer, stored, ReadLine}
 use Rattle.texts.specs.declared.line.Line.{Line}
 use Rattle.texts.specs.declared.line.Line.the-variants.{Numbers, Unreadable}
 
@@ -31,6 +33,32 @@ within-back room unreadable e = absurd (readable-not e)
 pub within-room : (ns : List ℕ) (next : ℕ) {room : ℕ} → length ns ≤ room → within room (numbers ns next) ≡ numbers ns next
 within-room ns next {room} l = rw (le-leb (length ns) room l)
 
+-- ---- a line lies in the text
+ended-within : (bs : List ℕ) {line : List ℕ} → ended bs ≡ some line → length line < length bs
+unfolding ended
+ended-within [] e = absurd (Option·none-ne-some _ e)
+ended-within (b ∷ bs) {line} e = by (eqb b 10) (ended bs) e (λ l t. ended-within bs t)
+  where
+    by : (q : Bool) (o : Option (List ℕ)) → cond q (some []) (Option·map (b ∷_) o) ≡ some line → ((l : List ℕ) → o ≡ some l → length l < length bs)
+        → length line < length (b ∷ bs)
+    by true o f r = let same : _≡_ {A = List ℕ} [] line = cc in rw (← same) (omega arith)
+    by false none f r = absurd (Option·none-ne-some _ f)
+    by false (some l) f r = let same : b ∷ l ≡ line = cc in rw (← same) (omega (arith, r l refl))
+
+pub line-within : (text : List ℕ) (at : ℕ) {ns : List ℕ} {next : ℕ} → lineAt text at ≡ numbers ns next → (at < next) × (next ≤ length text)
+unfolding lineAt
+line-within text at {ns} {next} e = by (ended (drop at text)) refl e
+  where
+    up-to : (line : List ℕ) → length line < length (drop at text) → (o : Option (List ℕ)) → upTo (at + length line + 1) o ≡ numbers ns next
+        → (at < next) × (next ≤ length text)
+    up-to line l none f = absurd (readable-not f)
+    up-to line l (some ms) f = let stop : at + length line + 1 ≡ next = cc in omega (arith, length-drop at text)
+
+    by : (o : Option (List ℕ)) → ended (drop at text) ≡ o → lineBy at o ≡ numbers ns next → (at < next) × (next ≤ length text)
+    by none t f = absurd (readable-not f)
+    by (some line) t f = up-to line (ended-within (drop at text) t) (lineNumbers line) f
+
+-- ---- by the answer
 front : (ns old : List ℕ) {last : List ℕ} {count : ℕ} → last ≡ ns ++ drop count old → length ns ≡ count → take count last ≡ ns
 front ns old e s = rw (e, ← s) (take-append-seam ns (drop (length ns) old))
 

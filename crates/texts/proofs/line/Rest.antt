@@ -4,7 +4,6 @@
 --   rest-some              there is one at least, where it is readable
 --   line-over, line-empty, line-rest, line-some    a line and its rest
 --   rest-not, rest-over, rest-lf, rest-space, rest-other    by what stands there and behind it
---   at-lf, at-space        the same of the list of bytes
 -- Assumes nothing.
 use mathlib.Core.Path.{_≡_, refl, sym, ap, _∙_}
 use mathlib.Core.Bool.{Bool, true, false}
@@ -24,7 +23,7 @@ use Rattle.texts.specs.declared.numeral.Numeral.the-variants.{Of, Not}
 use Rattle.texts.proofs.numeral.Digits.{Digits, Stops, run-digits, run-stops, run-split, numeral-of}
 use Rattle.texts.proofs.line.Words.{ended-digits, words-some, words-digits, number-of, number-not, number-other}
 
-abbrev pub restBy : ℕ → Option (List ℕ) → Reading
+abbrev restBy : ℕ → Option (List ℕ) → Reading
 restBy i (some line) = upTo (i + length line + 1) (numbersOf (words line))
 restBy i none = unreadable
 
@@ -85,7 +84,7 @@ module _ (i : ℕ) (ds : List ℕ) (h : Digits ds) where
   unfolding ended
   end-of-text = rw (ended-digits ds [] h)
 
-  pub at-lf : (rest : List ℕ) → restBy i (ended (ds ++ 10 ∷ rest)) ≡ upTo (i + length ds + 1) (both (numberOf ds) (some []))
+  at-lf : (rest : List ℕ) → restBy i (ended (ds ++ 10 ∷ rest)) ≡ upTo (i + length ds + 1) (both (numberOf ds) (some []))
   unfolding ended words numbersOf
   at-lf rest = rw (ended-digits ds (10 ∷ rest) h, first-word [] [] [] refl, append-nil)
 
@@ -97,7 +96,7 @@ module _ (i : ℕ) (ds : List ℕ) (h : Digits ds) where
       by none = refl
       by (some l) = refl
 
-  pub at-space : (v : ℕ) (rest : List ℕ) → numberOf ds ≡ some v → restBy i (ended (ds ++ 32 ∷ rest)) ≡ onto v (restBy (i + length ds + 1) (ended rest))
+  at-space : (v : ℕ) (rest : List ℕ) → numberOf ds ≡ some v → restBy i (ended (ds ++ 32 ∷ rest)) ≡ onto v (restBy (i + length ds + 1) (ended rest))
   at-space v rest n = rw (further 32 rest refl) (by (ended rest))
     where
       by : (o : Option (List ℕ)) → restBy i (Option·map (λ l. ds ++ 32 ∷ l) o) ≡ onto v (restBy (i + length ds + 1) o)

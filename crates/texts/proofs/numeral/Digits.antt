@@ -1,21 +1,22 @@
 -- Runs of digits as lists.
---   digit-is, digit-low, digit-high    the bytes from '0' to '9'
+--   digit-is, digit-low        the bytes from '0' to '9'
 --   Digits, Stops              every byte is a digit; no digit at the front
 --   run-digits, run-stops, run-split    a run has only digits, no digit stands behind it, and the two are the text
 --   run-of                     digits with no digit behind them are the run
 --   numeral-of, numeral-not    the number of a run does not depend on where it stands
+--   number-within              a number that is read lies in the text
 -- Assumes nothing.
 use mathlib.Core.Path.{_≡_, refl, ap}
 use mathlib.Core.Bool.{Bool, true, false, cond, _&&_}
-use mathlib.Mathlib.Data.Bool.Basic.{and-elim-left, and-elim-right}
+use mathlib.Mathlib.Data.Bool.Basic.{and-elim-left}
 use mathlib.Core.List.{List, [], _∷_, _++_}
-use Prim.Native.Nat.{ℕ, _+_, _^_, _≤_}
+use Prim.Native.Nat.{ℕ, _+_, _^_, _≤_, _<_}
 use native.Mathlib.Omega.{arith}
 use lib.Dec.{leb, ltb}
-use lib.ListN.{length, drop}
+use lib.ListN.{length, drop, length-append, length-drop}
 use borrow.Author.Tests.{le-leb, leb-true}
 use Rattle.texts.specs.Ascii.{isDigit}
-use Rattle.texts.specs.Numeral.{run, value, wellFormed, numeral}
+use Rattle.texts.specs.Numeral.{run, value, wellFormed, numeral, numeralAt}
 use Rattle.texts.specs.declared.numeral.Numeral.the-variants.{Of, Not}
 
 pub digit-is : (b : ℕ) → 48 ≤ b → b ≤ 57 → isDigit b ≡ true
@@ -23,9 +24,6 @@ digit-is b l h = rw (le-leb 48 b l, le-leb b 57 h)
 
 pub digit-low : (b : ℕ) → isDigit b ≡ true → 48 ≤ b
 digit-low b e = leb-true 48 b (and-elim-left (leb 48 b) (leb b 57) e)
-
-pub digit-high : (b : ℕ) → isDigit b ≡ true → b ≤ 57
-digit-high b e = leb-true b 57 (and-elim-right (leb 48 b) (leb b 57) e)
 
 abbrev pub Digits : List ℕ → Type 0
 Digits [] = Unit {0}
@@ -86,3 +84,14 @@ module _ (ds : List ℕ) (at : ℕ) where
       by : (q : Bool) → cond q (Of (value ds) (at + length ds)) Not ≡ Not → cond q (Of (value ds) (0 + length ds)) Not ≡ Not
       by true g = let z : _≡_ {A = ℕ} 0 1 = cc in absurd (omega arith)
       by false g = refl
+
+some-digit : (ds : List ℕ) (at : ℕ) {v e : ℕ} → numeral ds at ≡ Of v e → 0 < length ds
+unfolding numeral wellFormed
+some-digit [] at h = let z : _≡_ {A = ℕ} 0 1 = cc in absurd (omega arith)
+some-digit (d ∷ ds) at h = omega arith
+
+pub number-within : (text : List ℕ) (at : ℕ) {v e : ℕ} → numeralAt text at ≡ Of v e → (at < e) × (e ≤ length text)
+number-within text at h =
+    let ds = run (drop at text) in
+    let whole = ap length (run-split (drop at text)) in
+    omega (arith, numeral-of ds at h .0, some-digit ds at h, whole, length-append ds (drop (length ds) (drop at text)), length-drop at text)

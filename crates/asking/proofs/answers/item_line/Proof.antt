@@ -11,12 +11,15 @@ unfolding itemText
 item-line-spec =
     tie.close
     (tie.spec
-    (λ c κs. search needs)
     (λ c. search needs)
     (λ c κs. search needs)
     (λ c κs. search needs)
     (λ c. search needs)
     (λ c κs. search needs)
-    (λ c. let at-put-number = c .before .before .before in let at-put-text = at-put-number .before .before in
-    let at-number = at-put-text .before .before .before in at-number .number .ensures then at-put-text .put-text .ensures then at-put-number .put-number
-    .ensures then c .put-text2 .ensures))
+    (λ c κs. search needs)
+    (λ c. search needs)
+    (λ c κs. search needs)
+    (λ c. let at-put-number2 = c .before .before .before in let at-put-text2 = at-put-number2 .before .before in
+    let at-put-number = at-put-text2 .before .before .before in let at-put-text = at-put-number .before .before in
+    at-put-text .put-text .ensures then at-put-number .put-number .ensures then at-put-text2 .put-text2 .ensures then at-put-number2 .put-number2 .ensures
+    then c .put-text3 .ensures))

@@ -11,7 +11,10 @@ unfolding numberLine
 number-line-spec =
     tie.close
     (tie.spec
+    (λ c. search needs)
+    (λ c κs. search needs)
     (λ c κs. search needs)
     (λ c. search needs)
     (λ c κs. search needs)
-    (λ c. let at-number = c .before .before .before in at-number .number .ensures then c .put-text .ensures))
+    (λ c. let at-put-number = c .before .before .before in let at-put-text = at-put-number .before .before in
+    at-put-text .put-text .ensures then at-put-number .put-number .ensures then c .put-text2 .ensures))

@@ -13,12 +13,9 @@ take-cells-spec =
     (λ c κs. search needs)
     (λ c. search needs)
     (λ c. search needs)
-    (λ c. let at-numbers-at = c .before .before in cells-not (at-numbers-at .numbers-at .ensures) (omega arith) (c .enum-told .given .1))
-    (λ c. let at-count = c .before .before in let at-numbers-at = at-count .before .before in
-    cells-none (at-numbers-at .numbers-at .ensures) (omega arith) (at-count .count .given .1) (c .if1 .taken))
+    (λ c. search (needs, cells-not))
+    (λ c. search (needs, cells-none))
     (λ c. search needs)
-    (λ c. let at-count = c .before .before .before in let at-numbers-at = at-count .before .before in
-    cells-many (at-numbers-at .numbers-at .ensures) (omega arith) (at-count .count .given .1) (c .if2 .taken))
+    (λ c. search (needs, cells-many))
     (λ c. search needs)
-    (λ c. let at-if1 = c .before .before in let at-count = at-if1 .before .before in let at-numbers-at = at-count .before .before in
-    cells-some (at-numbers-at .numbers-at .ensures) (omega arith) (at-count .count .given .1) (at-if1 .if1 .left) (c .before .if2 .left)))
+    (λ c. search (needs, cells-some)))

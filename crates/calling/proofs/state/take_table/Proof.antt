@@ -12,27 +12,20 @@ take-table-spec =
     tie.close
     (tie.spec
     (λ c κs. search needs)
-    (λ c κs. let at-pre = c .before .before in next-within _ _ (c .after .ensures) (at-pre .pre))
+    (λ c κs. search next-within)
     (λ c κs. search needs)
     (λ c. search needs)
     (λ c. search needs)
     (λ c κs. search needs)
     (λ c κs. search needs)
-    (λ c. let at-enum-told = c .before .before .before in let at-numbers-at = at-enum-told .before .before in
-    let at-after2 = at-numbers-at .before .before in let at-after = at-after2 .before in
-    table-none (at-after .after .ensures) (at-after2 .after2 .ensures) (omega arith) (at-numbers-at .numbers-at .ensures) (at-enum-told .enum-told .given .1)
-    (c .without-table .ensures) (c .before .unreadable .ensures))
+    (λ c. search (needs, table-none))
     (λ c κs. search needs)
     (λ c. search needs)
     (λ c. search needs)
     (λ c κs. search needs)
     (λ c κs. search needs)
-    (λ c. let at-enum-told2 = c .before .before .before in let at-numbers-at2 = at-enum-told2 .before .before in
-    let at-numbers-at = at-numbers-at2 .before .before .before .before .before in let at-after2 = at-numbers-at .before .before in
-    let at-after = at-after2 .before in table-half (at-after .after .ensures) (at-after2 .after2 .ensures) (omega arith) (at-numbers-at .numbers-at
-    .ensures) (omega arith)
-    (at-numbers-at2 .numbers-at2 .ensures) (at-enum-told2 .enum-told2 .given .1) (c .without-table2 .ensures) (c .before .unreadable2 .ensures))
+    (λ c. search (needs, table-half))
     (λ c. let at-numbers-at2 = c .before .before .before in let at-table-words = at-numbers-at2 .before .before .before in
     let at-numbers-at = at-table-words .before .before in let at-after2 = at-numbers-at .before .before in let at-after = at-after2 .before in
-    table-both (at-after .after .ensures) (at-after2 .after2 .ensures) (omega arith) (at-numbers-at .numbers-at .ensures) (omega arith)
-    (at-numbers-at2 .numbers-at2 .ensures) (at-table-words .table-words .given .1) (c .before .pool-words .given .1) (refl, refl, refl, refl, refl)))
+    table-both (at-after .after .ensures) (at-after2 .after2 .ensures) (omega arith) (at-numbers-at .numbers-at .ensures) (omega arith) (at-numbers-at2
+    .numbers-at2 .ensures) (at-table-words .table-words .given .1) (c .before .pool-words .given .1) (refl, refl, refl, refl, refl)))

@@ -19,8 +19,7 @@ answer-spec =
     (λ c. search needs)
     (λ c. search needs)
     (λ c κs. search needs)
-    (λ c. let at-enum-told = c .before .before in let at-take-cells = at-enum-told .before .before in
-    told (no-cells (at-take-cells .take-cells .ensures) _ (at-enum-told .enum-told .given .1)) (c .unreadable .ensures))
+    (λ c. told (search no-cells) (c .unreadable .ensures))
     (λ c. let at-start = c .before .before .before in let at-take-cells = at-start .before .before in
     cells-fit (at-take-cells .take-cells .ensures) (at-start .start .given .1) .0)
     (λ c. let at-start = c .before .before .before in let at-take-cells = at-start .before .before in

@@ -14,7 +14,5 @@ judge-spec =
     (λ c κs. search needs)
     (λ c. search needs)
     (λ c κs. search needs)
-    (λ c. let at-enum-told = c .before .before in let at-start = at-enum-told .before .before in
-    judge-cases (at-start .start .ensures) (at-enum-told .enum-told .given .1) (c .put-cases .ensures))
-    (λ c. let at-r = c .before .before .before in let at-start = at-r .before .before in
-    judge-refused (at-start .start .ensures) (at-r .r .given .1) (c .refused-line .ensures)))
+    (λ c. search judge-cases)
+    (λ c. search judge-refused))

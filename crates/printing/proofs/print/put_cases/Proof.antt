@@ -26,8 +26,6 @@ put-cases-spec =
     (λ c κs. search needs)
     (λ c. let at-n = c .before .before .before in let at-one-at = at-n .before .before in let at-loop = at-one-at .before in
     omega (arith, go-further (at-loop .loop .inv) (at-one-at .one-at .ensures) (at-n .n .given .1)))
-    (λ c. let at-n = c .before .before .before in let at-one-at = at-n .before .before in let at-loop = at-one-at .before in
-    go-more (at-loop .loop .inv) (at-one-at .one-at .ensures) (at-n .n .given .1) (c .put-answer .ensures))
+    (λ c. search go-more)
     (λ c. search needs)
-    (λ c. let at-one-at = c .before .before in let at-loop = at-one-at .before in
-    go-all (at-loop .loop .inv) (at-one-at .one-at .ensures) (c .enum-told .given .1)))
+    (λ c. search go-all))

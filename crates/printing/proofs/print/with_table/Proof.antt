@@ -18,12 +18,10 @@ with-table-spec =
     (λ c. search needs)
     (λ c. search needs)
     (λ c κs. search needs)
-    (λ c. let at-enum-told = c .before .before in let at-numbers-at = at-enum-told .before .before .before in
-    told (no-pool _ (at-numbers-at .numbers-at .ensures) (omega arith) (at-enum-told .enum-told .given .1)) (c .unreadable .ensures))
+    (λ c. told (search (needs, no-pool)) (c .unreadable .ensures))
     (λ c. let at-numbers-at = c .before .before .before .before in
     omega (arith, read-numbers (at-numbers-at .numbers-at .ensures) (c .before .count .given .1) .room))
     (λ c. let at-count = c .before .before in let at-numbers-at = at-count .before .before .before in
     simp length-take (omega (arith, read-numbers (at-numbers-at .numbers-at .ensures) (at-count .count .given .1) .room)))
     (λ c κs. search needs)
-    (λ c. let at-count = c .before .before .before .before in let at-numbers-at = at-count .before .before .before in
-    told (pool-text _ (at-numbers-at .numbers-at .ensures) (omega arith) (at-count .count .given .1)) (c .with-pool .ensures)))
+    (λ c. told (search (needs, pool-text)) (c .with-pool .ensures)))

@@ -2,16 +2,14 @@
 -- Assumes nothing.
 use borrow.Author.Needs.{needs}
 use native.Mathlib.Omega.{arith}
-use lib.ListN.{length-take}
-use lib.Seq.{length-take-le}
 use Rattle.texts.proofs.page.Putting.{told}
-use Rattle.asking.proofs.Taking.{no-row, row-fits, room-within, row-text}
-use Rattle.row_calls.specs.ReadRow.{readRowCall}
+use Rattle.asking.proofs.Taking.{no-row, row-fits, room-within, room-lent, row-text}
+use Rattle.row_calls.specs.ReadRow.{readRowText, readRowCall}
 use Rattle.row_calls.proofs.read_row.answer.Statement.{statement}
 use Rattle.row_calls.proofs.read_row.answer.Tie as tie
 
 pub answer-spec : {M : Type 1} → statement M
-unfolding readRowCall
+unfolding readRowText readRowCall
 answer-spec =
     tie.close
     (tie.spec
@@ -19,23 +17,18 @@ answer-spec =
     (λ c. search needs)
     (λ c. search needs)
     (λ c κs. search needs)
-    (λ c. let at-enum-told = c .before .before in let at-take-row = at-enum-told .before .before in
-    told (no-row (at-take-row .take-row .ensures) _ (at-enum-told .enum-told .given .1)) (c .unreadable .ensures))
+    (λ c. told (search no-row) (c .unreadable .ensures))
     (λ c. let at-start = c .before .before .before in let at-take-row = at-start .before .before in
     row-fits (at-take-row .take-row .ensures) (at-start .start .given .1) .0)
     (λ c. let at-start = c .before .before .before in let at-take-row = at-start .before .before in
     omega (arith, row-fits (at-take-row .take-row .ensures) (at-start .start .given .1)))
     (λ c. let at-start = c .before .before .before in let at-take-row = at-start .before .before in
     omega (arith, row-fits (at-take-row .take-row .ensures) (at-start .start .given .1), c .words2 .given))
-    (λ c. let at-start = c .before .before .before .before in let at-take-row = at-start .before .before in
-    let at-pre = at-take-row .before .before .before .before .before .before in
-    room-within (at-take-row .take-row .ensures) (at-start .start .given .1) (at-pre .pre))
-    (λ c. let at-start = c .before .before .before .before .before in let at-take-row = at-start .before .before in
-    let at-pre = at-take-row .before .before .before .before .before .before in
-    simp length-take (omega (arith, room-within (at-take-row .take-row .ensures) (at-start .start .given .1) (at-pre .pre))))
+    (λ c. search room-within)
+    (λ c. search room-lent)
     (λ c κs. search needs)
     (λ c. search needs)
     (λ c. let at-call = c .before .before in let at-start = at-call .before .before .before .before .before .before .before in
     let at-take-row = at-start .before .before in let at-pre = at-take-row .before .before .before .before .before .before in
-    told (row-text (at-take-row .take-row .ensures) (at-start .start .given .1) _) (rw (length-take-le _ _ (room-within (at-take-row .take-row .ensures)
-    (at-start .start .given .1) (at-pre .pre))) at (at-call .call .ensures .puts))))
+    told (row-text (at-take-row .take-row .ensures) (at-start .start .given .1) _) (rw (← room-lent (at-take-row .take-row .ensures) (at-start .start .given
+    .1) _ (at-pre .pre)) at (at-call .call .ensures .puts))))

@@ -2,8 +2,8 @@
 -- Assumes nothing.
 use borrow.Author.Needs.{needs}
 use native.Mathlib.Omega.{arith}
-use Rattle.rows.proofs.CountedRows.{row-fits}
-use Rattle.row_calls.proofs.Rows.{wrote-done, wrote-refused}
+use Rattle.rows.proofs.CountedRows.{row-size, row-fits, row-cells}
+use Rattle.row_calls.proofs.Rows.{row-done, row-refused, wrote}
 use Rattle.row_calls.proofs.write_row.call.Statement.{statement}
 use Rattle.row_calls.proofs.write_row.call.Tie as tie
 
@@ -20,9 +20,14 @@ call-spec =
     (λ c κs. search needs)
     (λ c. search needs)
     (λ c. let at-items = c .before .before .before .before in let at-write-row = at-items .before .before .before .before in
-    let at-fill = at-write-row .before .before .before .before in
-    wrote-done _ (at-fill .fill .ensures) (at-write-row .write-row .ensures) (at-items .items .given .1) (c .done-line .ensures))
+    let at-fill = at-write-row .before .before .before .before in let at-args = at-fill .before .before .before .before .before .before in
+    row-done _ _ (at-fill .fill .ensures) (at-write-row .write-row .ensures .holds)
+    (wrote (at-args .args .cells .now) (at-fill .fill .ensures) (at-write-row .write-row .ensures)) (at-items .items .given .1)
+    (row-size (at-write-row .write-row .ensures) (at-items .items .given .1)) (row-cells (at-write-row .write-row .ensures) (at-items .items .given .1))
+    (c .done-line .ensures))
     (λ c. search needs)
     (λ c. let at-refusal = c .before .before .before .before in let at-write-row = at-refusal .before .before .before .before in
-    let at-fill = at-write-row .before .before .before .before in
-    wrote-refused _ (at-fill .fill .ensures) (at-write-row .write-row .ensures) (at-refusal .refusal .given .1) (c .refused-at-item .ensures)))
+    let at-fill = at-write-row .before .before .before .before in let at-args = at-fill .before .before .before .before .before .before in
+    row-refused _ _ (at-fill .fill .ensures) (at-write-row .write-row .ensures .holds)
+    (wrote (at-args .args .cells .now) (at-fill .fill .ensures) (at-write-row .write-row .ensures)) (at-refusal .refusal .given .1)
+    (c .refused-at-item .ensures)))

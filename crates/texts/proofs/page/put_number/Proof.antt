@@ -3,7 +3,7 @@
 use borrow.Author.Needs.{needs}
 use native.Mathlib.Omega.{arith}
 use mathlib.Core.Path.{refl}
-use Rattle.texts.proofs.Sizes.{decimal-size}
+use Rattle.texts.proofs.Decimals.{decimal-size}
 use Rattle.texts.proofs.page.Spelling.{spelled-same, spelled-text}
 use Rattle.texts.proofs.page.put_number.Statement.{statement}
 use Rattle.texts.proofs.page.put_number.Tie as tie
