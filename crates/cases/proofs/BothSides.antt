@@ -5,6 +5,7 @@
 --   case-written        a number asked for that has a case within the limits: `write` gives it
 --   written-then-read   what `write` gives, `read` finds the number of
 --   read-then-written   what `read` finds the number of, `write` gives back, in any buffer that is long enough
+--   read-case           what a walk reads is a case
 --   only-cases          `read` gives a number only for the cells of its case
 --   one-case, one-number   a number has one case, a case one number
 --   no-case-begins      the same of cells at any depths, and of any two numbers
