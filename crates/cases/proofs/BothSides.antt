@@ -5,6 +5,7 @@
 --   case-written        a number asked for that has a case within the limits: `write` gives it
 --   written-then-read   what `write` gives, `read` finds the number of
 --   read-then-written   what `read` finds the number of, `write` gives back, in any buffer that is long enough
+--   read-case           what a walk reads is a case
 --   only-cases          `read` gives a number only for the cells of its case
 --   one-case, one-number   a number has one case, a case one number
 --   no-case-begins      the same of cells at any depths, and of any two numbers
@@ -64,24 +65,20 @@ module _ (t p : List ℕ) (a : verdict t p ≡ Accepted) (i : ℕ) (l : i < node
   case-written n room cs q c f = (writes-is t p a i l n room cs q (c .shows) (omega (arith, c .few)), rw (c .shows) (cells-map cs))
 
   -- ---- 4. a case followed by anything
-  pub reads-on : (n : ℕ) (cs rest : List ℕ) (q : ℕ) → Asked (rulesOf t p i .size) n → Case (rulesOf t p) i n cs
-      → run (rulesOf t p) depth 0 i (length cs + q) (cs ++ rest) ≡ read n q rest
-  reads-on n cs rest q k c = back z (nodes t) (rulesOf t p) good depth 0 i n l (below k) cs (c .shows) q rest
-
-  pub reads-most : {n : ℕ} {cs : List ℕ} (rest : List ℕ) → Asked (rulesOf t p i .size) n → Case (rulesOf t p) i n cs
+  pub reads-on : {n : ℕ} {cs : List ℕ} (rest : List ℕ) → Asked (rulesOf t p i .size) n → Case (rulesOf t p) i n cs
       → run (rulesOf t p) depth 0 i most (cs ++ rest) ≡ read n (most - length cs) rest
-  reads-most {n} {cs} rest q c =
+  reads-on {n} {cs} rest q c =
       let room : length cs + (most - length cs) ≡ most = omega (arith, c .few) in
-      rw room at (reads-on n cs rest (most - length cs) q c)
+      rw room at (back z (nodes t) (rulesOf t p) good depth 0 i n l (below q) cs (c .shows) (most - length cs) rest)
 
   -- so `read`, which is for a whole case, refuses it
   pub longer-refused : (n : ℕ) (cs : List ℕ) (c : ℕ) (more : List ℕ) → Asked (rulesOf t p i .size) n → Case (rulesOf t p) i n cs
       → reads t p i (cs ++ (c ∷ more)) ≡ Refused NotACase 0
-  longer-refused n cs c more q k = reads-is t p a i l (cs ++ (c ∷ more)) ∙ left-over _ (reads-most (c ∷ more) q k)
+  longer-refused n cs c more q k = reads-is t p a i l (cs ++ (c ∷ more)) ∙ left-over _ (reads-on (c ∷ more) q k)
 
   -- ---- 1. written, then read
   case-read : (n : ℕ) (cs : List ℕ) → Asked (rulesOf t p i .size) n → Case (rulesOf t p) i n cs → reads t p i cs ≡ Number n
-  case-read n cs q c = reads-is t p a i l cs ∙ number-found _ n (most - length cs) (rw append-nil at (reads-most [] q c)) (q .small)
+  case-read n cs q c = reads-is t p a i l cs ∙ number-found _ n (most - length cs) (rw append-nil at (reads-on [] q c)) (q .small)
 
   pub written-then-read : (n room k : ℕ) → writes t p i n room ≡ Done k → reads t p i (cells (walk (rulesOf t p) depth 0 i n)) ≡ Number n
   written-then-read n room k e = case-read n _ (writes-done t p i n room k e .0) (case-of n room k e)

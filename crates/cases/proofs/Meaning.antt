@@ -33,10 +33,10 @@ use Rattle.grammar.specs.declared.refusal.Verdict.the-variants.{Accepted, Refus
 use Rattle.numbers.proofs.Tests.{and-left, and-right}
 use Rattle.grammar.proofs.Checked.{checked-of}
 use Rattle.cycles.proofs.Table.{graph, unguarded-is, except-is, cycles-by}
-use Rattle.checked.proofs.Preparing.{refused-not}
+use Rattle.checked.proofs.Opens.{refused-not}
 
 -- the tests of lengths, as facts
-pub lengths-mean : (t p : List ℕ) → lengths t p ≡ true → (length t ≡ 3 * nodes t) × (nodes t ≤ 256)
+lengths-mean : (t p : List ℕ) → lengths t p ≡ true → (length t ≡ 3 * nodes t) × (nodes t ≤ 256)
 lengths-mean t p e =
     let whole = eqb (length t) (3 * nodes t) in
     let some = leb 1 (nodes t) in

@@ -31,7 +31,7 @@ unfolding written writtenOf
 written-back (Done k) = refl
 written-back (Refused r k) = refused-back (Done 0) (λ r. Refused r k) r
 
-pub written-one : (w x : Written) → written w ≡ written x → w ≡ x
+written-one : (w x : Written) → written w ≡ written x → w ≡ x
 written-one w x e = sym (written-back w) ∙ ap writtenOf e ∙ written-back x
 
 pub wrote-is : {t p : List ℕ} {i n : ℕ} {old last : List ℕ} {r : Written} → Wrote t p i n old last r → r ≡ writes t p i n (length old)

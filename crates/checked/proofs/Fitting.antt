@@ -1,6 +1,5 @@
 -- What the code of `decided`, `fits` and `write_case` has found, in the words of their promises.
 --   asked-large, asked-small   the test of a number, as the code makes it
---   fit-13, fit-14, fit-cells  what a walk hands back
 --   decided-12, fits-12        refused before the walk
 --   visits-of, may             else the walk may be made
 --   lent-long                  the front of a buffer that is lent to it
@@ -10,18 +9,18 @@
 --   placed-long                a buffer keeps its length
 -- Assumes nothing.
 use mathlib.Core.Path.{_≡_, refl, sym, subst, ap, _∙_}
-use mathlib.Core.Bool.{Bool, true, false, _&&_, false≢true}
+use mathlib.Core.Bool.{Bool, true, false, and-true, and-false, false≢true}
 use mathlib.Core.List.{List, [], _∷_, _++_}
 use Prim.Native.Nat.{ℕ, zero, suc, _+_, _*_, _-_, _^_, _≤_, _<_}
 use native.Mathlib.Nat.{not-suc-le-zero, le-of-suc-le-suc}
 use native.Mathlib.Omega.{arith}
 use lib.Dec.{ltb}
 use lib.ListN.{length, getD, take, drop, length-take, length-drop, length-append, take-append-drop}
-use borrow.Author.Tests.{lt-ltb, le-ltb, ne-eqb}
+use borrow.Author.Tests.{lt-ltb, le-ltb}
 use Rattle.numbers.specs.Size.{Size, sizeOf, below, Below}
 use Rattle.numbers.proofs.size.SizeWords.{by-size}
 use Rattle.grammar.specs.declared.refusal.Refusal.{Refusal}
-use Rattle.grammar.specs.declared.refusal.Refusal.the-variants.{NoSuchNumber, TooDeep, NoRoom}
+use Rattle.grammar.specs.declared.refusal.Refusal.the-variants.{NoSuchNumber}
 use Rattle.grammar.specs.Rule.{Rule}
 use Rattle.grammar.specs.Plan.{ruleIn}
 use Rattle.walk.specs.Walk.{walk, cells, depth}
@@ -29,7 +28,7 @@ use Rattle.walk.specs.Room.{tallied}
 use Rattle.walk.specs.Laid.{leftOf, Laid}
 use Rattle.lists.specs.Filled.{over}
 use Rattle.lists.proofs.Fills.{over-long}
-use Rattle.walk.proofs.Rooms.{word-left, tally-count}
+use Rattle.walk.proofs.Rooms.{tally-count}
 use Rattle.walk.specs.Plan.{Visits, Reading}
 use Rattle.laying.specs.Sure.{Sure}
 use Rattle.checked.specs.Fits.{asked, Asked, roomFor, caseCells, outcome, fitted, FitOver, places, Placed}
@@ -40,29 +39,11 @@ use Rattle.checked.proofs.Fitted.{was-asked, cells-left, fitted-is}
 -- ---- a number against the word of a size
 module _ (w n : ℕ) where
   pub asked-large : 2 ^ 62 ≤ n → false ≡ asked (sizeOf w) n
-  asked-large h = by (below n (sizeOf w))
-    where
-      by : (q : Bool) → false ≡ (q && ltb n (2 ^ 62))
-      by true = sym (le-ltb n (2 ^ 62) h)
-      by false = refl
+  asked-large h = rw (le-ltb n (2 ^ 62) h) (sym (and-false (below n (sizeOf w))))
 
   pub asked-small : n < 2 ^ 62 → ltb n w ≡ asked (sizeOf w) n
-  asked-small h = by-size (λ s. ltb n w ≡ asked s n) w (λ f. rw (lt-ltb n (2 ^ 62) h) (and-true (ltb n w)))
+  asked-small h = by-size (λ s. ltb n w ≡ asked s n) w (λ f. rw (lt-ltb n (2 ^ 62) h) (sym (and-true (ltb n w))))
       (λ f. rw (lt-ltb n (2 ^ 62) h) (lt-ltb n w (omega arith)))
-    where
-      and-true : (a : Bool) → a ≡ (a && true)
-      and-true true = refl
-      and-true false = refl
-
--- ---- what a walk hands back, as an answer
-pub fit-13 : (most w : ℕ) → w ≡ 2 ^ 63 → Not TooDeep ≡ outcome most (leftOf w)
-fit-13 most w q = rw q
-
-pub fit-14 : (most w : ℕ) → 2 ^ 63 ≤ w → (w ≡ 2 ^ 63 → ⊥) → Not NoRoom ≡ outcome most (leftOf w)
-fit-14 most w u v = rw (le-ltb w (2 ^ 63) u, ne-eqb w (2 ^ 63) v)
-
-pub fit-cells : (most w : ℕ) → w < 2 ^ 63 → Cells (most - w) ≡ outcome most (leftOf w)
-fit-cells most w q = rw (word-left w q)
 
 module _ {plan p : List ℕ} {i : ℕ} (h : Reading plan p i) (n : ℕ) {b : Bool} (a : b ≡ asked (sizeOf (getD plan (4 * i + 3) 0)) n) where
   -- the size that the plan has is the rule's

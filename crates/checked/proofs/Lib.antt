@@ -1,5 +1,4 @@
 -- What the proofs of the whole check and of one case cite.
-pub mod Preparing
 pub mod Walking
 pub mod Copying
 pub mod Fitted

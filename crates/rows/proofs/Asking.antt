@@ -94,7 +94,7 @@ module _ (c : Asker) where
   Said y n z = Moved (now (c .t)) (now (c .p)) (c .st) y n z
 
 module _ {M : Type 1} (𝓤 : URA M) (H : Heap 𝓤) (A : Atoms 𝓤) (W : Given 𝓤 H A) (at-mem : Memory → SProp 𝓤) (run : Routine → Fun 𝓤) (c : Asker) (l : ℕ) where
-  abbrev pub to-step : ℕ → GName → Reader → Step 𝓤 H A at-mem run .Ghost
+  abbrev to-step : ℕ → GName → Reader → Step 𝓤 H A at-mem run .Ghost
   to-step α δ y = ((κs c α, qs c, (meet-⊑-right (α ∷ []) (c .κ), tt), sent c l δ y, passed c l α), tt)
 
   abbrev Tokens : ℕ → Item 𝓤

@@ -26,7 +26,8 @@ use Rattle.rows.specs.declared.answer.Row.{Row}
 use Rattle.rows.specs.declared.answer.Row.the-variants.{Done}
 use Rattle.rows.specs.declared.reader.Next.the-variants.{Item, Refused as Not-handed}
 use Rattle.rows.proofs.WrittenInTurn.{done-row}
-use Rattle.rows.proofs.Cuts.{gathered-size, case-front}
+use Rattle.rows.proofs.Cuts.{case-front}
+use Rattle.rows.proofs.Gathering.{gathered-size}
 use Rattle.rows.proofs.Values.{wrote-row-is, got-row-is}
 
 -- ---- an answer that is done: the call has opened

@@ -27,9 +27,9 @@ use Rattle.checked.specs.Item.{Front, number, refused, frontOf, front}
 use Rattle.checked.specs.declared.fits.Fit.the-variants.{Cells}
 use Rattle.checked.proofs.Fitted.{cells-map, fitted-is, fitted-cells}
 use Rattle.cases.proofs.WalkAnswers.{front-number}
-use Rattle.cases.proofs.BothSides.{case-some, reads-most, read-case}
+use Rattle.cases.proofs.BothSides.{case-some, reads-on, read-case}
 use Rattle.rows.specs.WriteRow.{onward, inTurn, rowOf}
-use Rattle.rows.specs.ReadRow.{Gathered, all, stopped, after, gather, full, answered, gotten}
+use Rattle.rows.specs.ReadRow.{Gathered, all, stopped, after, gather}
 use Rattle.rows.specs.ReadRow as Rows-read
 use Rattle.rows.specs.Reader.{next, nextOf, afterOf, strideOf}
 use Rattle.rows.specs.Cut.{Cut, none, item, joined, handOut, asks}
@@ -37,57 +37,25 @@ use Rattle.rows.specs.declared.answer.Row.the-variants.{Done}
 use Rattle.rows.specs.declared.reader.Next.{Next}
 use Rattle.rows.specs.declared.reader.Next.the-variants.{Item, Refused}
 use Rattle.rows.proofs.WrittenInTurn.{onward-done}
-use Rattle.rows.proofs.Gathering.{gather-none, gather-full, gather-more, answered-all}
+use Rattle.rows.proofs.Gathering.{gather-none, gather-full, gather-more, full-not, onward-all, gathered-none}
 use Rattle.checked.proofs.Opens.{opens}
 use Rattle.rows.proofs.Calls.{next-some}
 
 -- ---- one case for a number
-pub same-case : {g : ℕ → Rule} {i n : ℕ} {cs ds : List ℕ} → Case g i n cs → Case g i n ds → cs ≡ ds
+same-case : {g : ℕ → Rule} {i n : ℕ} {cs ds : List ℕ} → Case g i n cs → Case g i n ds → cs ≡ ds
 same-case {g} {i} {n} {cs} {ds} c d = sym (cells-map cs) ∙ ap cells (sym (c .shows) ∙ d .shows) ∙ cells-map ds
 
-pub cases-same : {g : ℕ → Rule} {i : ℕ} {ns : List ℕ} {css dss : List (List ℕ)} → Cut g i ns css → Cut g i ns dss → css ≡ dss
+cases-same : {g : ℕ → Rule} {i : ℕ} {ns : List ℕ} {css dss : List (List ℕ)} → Cut g i ns css → Cut g i ns dss → css ≡ dss
 cases-same none none = refl
 cases-same (item q c k) (item q' c' k') = cc (same-case c c', cases-same k k')
 
 -- ---- answers turned round
-full-not : (f : Front) {ns : List ℕ} → full f ≡ all ns → ⊥
-full-not (number n rest) e = let z : _≡_ {A = ℕ} 0 1 = cc in omega arith
-full-not (refused r) e = let z : _≡_ {A = ℕ} 0 1 = cc in omega arith
-
-after-all : (n : ℕ) (x : Gathered) {ns : List ℕ} → after n x ≡ all ns → (ms : List ℕ) × (x ≡ all ms) × (ns ≡ n ∷ ms)
-after-all n (all ms) {ns} e = let s : n ∷ ms ≡ ns = cc in (ms, refl, sym s)
-after-all n (stopped r k) e = let z : _≡_ {A = ℕ} 0 1 = cc in absurd (omega arith)
-
 after-stopped : (n : ℕ) (x : Gathered) {r : Refusal} {k : ℕ} → after n x ≡ stopped r k → (j : ℕ) × (x ≡ stopped r j) × (k ≡ suc j)
 after-stopped n (all ms) e = let z : _≡_ {A = ℕ} 0 1 = cc in absurd (omega arith)
 after-stopped n (stopped x j) {r} {k} e =
     let s : x ≡ r = cc in
     let s' : suc j ≡ k = cc in
     (j, ap (λ y. stopped y j) s, sym s')
-
-onward-all : (f : Front) (rest : List ℕ → Gathered) {ns : List ℕ} → Rows-read.onward f rest ≡ all ns
-    → (n : ℕ) × (ds : List ℕ) × (ms : List ℕ) × (f ≡ number n ds) × (rest ds ≡ all ms) × (ns ≡ n ∷ ms)
-onward-all (number n ds) rest e = let (ms, u, v) = after-all n (rest ds) e in (n, ds, ms, refl, u, v)
-onward-all (refused r) rest e = let z : _≡_ {A = ℕ} 0 1 = cc in absurd (omega arith)
-
--- a row of no cells
-gathered-none : (g : ℕ → Rule) (i room : ℕ) {ns : List ℕ} → gather g i room [] ≡ all ns → [] ≡ ns
-gathered-none g i room {ns} e = let f : all [] ≡ all ns = sym (gather-none g i room) ∙ e in cc
-
--- no more numbers are read than there is room for
-gathered-fits : (g : ℕ → Rule) (i room : ℕ) (cs : List ℕ) {ns : List ℕ} → gather g i room cs ≡ all ns → length ns ≤ room
-gathered-fits g i zero [] e = rw (← gathered-none g i 0 e) (omega arith)
-gathered-fits g i zero (c ∷ cs) e = absurd (full-not (front g i (c ∷ cs)) (sym (gather-full g i (c ∷ cs) (omega arith)) ∙ e))
-gathered-fits g i (suc room) [] e = rw (← gathered-none g i (suc room) e) (omega arith)
-gathered-fits g i (suc room) (c ∷ cs) e =
-    let (n, ds, ms, u, v, w) = onward-all (front g i (c ∷ cs)) (λ rest. gather g i room rest) (sym (gather-more g i room (c ∷ cs) (omega arith)) ∙ e) in
-    omega (arith, ap length w, gathered-fits g i room ds v)
-
-pub gathered-size : (g : ℕ → Rule) (i room : ℕ) (cs : List ℕ) (used : ℕ) {m c : ℕ} → answered used (gather g i room cs) ≡ Done m c
-    → (m ≡ length (gotten (gather g i room cs))) × (m ≤ room)
-gathered-size g i room cs used e =
-    let (ns, f, s, _) = answered-all used (gather g i room cs) e in
-    (sym s ∙ ap (λ (x : Gathered). length (gotten x)) (sym f), omega (arith, gathered-fits g i room cs f))
 
 module _ (t p : List ℕ) (a : verdict t p ≡ Accepted) (i : ℕ) (l : i < nodes t) where
   abbrev g : ℕ → Rule
@@ -98,10 +66,9 @@ module _ (t p : List ℕ) (a : verdict t p ≡ Accepted) (i : ℕ) (l : i < node
   some-cells {n} {cs} rest q c = omega (arith, case-some t p a i l n cs q c, length-append cs rest)
 
   -- ---- a case at the front
-  pub front-case : {n : ℕ} {cs : List ℕ} → Asked (g i .size) n → Case g i n cs → (rest : List ℕ) → front g i (cs ++ rest) ≡ number n rest
+  front-case : {n : ℕ} {cs : List ℕ} → Asked (g i .size) n → Case g i n cs → (rest : List ℕ) → front g i (cs ++ rest) ≡ number n rest
   unfolding frontOf
-  front-case {n} {cs} q c rest =
-      rw (reads-most t p a i l rest q c, lt-ltb n (2 ^ 62) (q .small))
+  front-case {n} {cs} q c rest = rw (reads-on t p a i l rest q c, lt-ltb n (2 ^ 62) (q .small))
 
   pub case-front : {n : ℕ} {cs rest : List ℕ} → front g i cs ≡ number n rest → (ws : List ℕ) × Asked (g i .size) n × Case g i n ws × (cs ≡ ws ++ rest)
   case-front {cs = cs} e = let (q, r, s) = front-number (run g depth 0 i most cs) e in read-case t p a i l r s

@@ -1,23 +1,27 @@
 -- The items of a row that is read, in turn.
 --   Storing      a row's answer is that of its rest, so many numbers later, and those stand over the buffer's front, as far as that goes
---   answered-all, answered-stopped   what was gathered, by the answer
+--   answered-all, answered-stopped, gathered-size   what was gathered, by the answer
+--   items-not, items-kept, items-again   `read_items`: refused; done, and what was kept is stored, or it is gathered again
+--   items-few, items-long   no more numbers than the buffer has room for; it keeps its length
 -- Assumes nothing.
 use mathlib.Core.Path.{_≡_, refl, sym, ap, _∙_}
 use mathlib.Core.List.{List, [], _∷_, _++_, append-assoc, append-nil}
 use Prim.Native.Nat.{ℕ, zero, suc, _+_, _-_, _≤_, _<_}
 use native.Mathlib.Nat.{not-suc-le-zero}
 use native.Mathlib.Omega.{arith}
-use lib.ListN.{length, drop, set, length-append, length-drop, drop-of-length-le}
+use lib.ListN.{length, take, drop, set, length-append, length-drop, drop-of-length-le}
 use Rattle.grammar.specs.declared.refusal.Refusal.{Refusal}
 use Rattle.grammar.specs.declared.refusal.Refusal.the-variants.{NoRoom}
 use Rattle.grammar.specs.Rule.{Rule}
 use Rattle.lists.specs.Filled.{over}
-use Rattle.checked.specs.Item.{refused, front, Stood}
+use Rattle.checked.specs.Item.{Front, number, refused, front, Stood}
 use Rattle.checked.specs.declared.item.Item.{Item}
 use Rattle.checked.specs.declared.item.Item.the-variants.{Number, Not}
 use Rattle.lists.proofs.Fills.{over-long}
 use Rattle.checked.proofs.Standing.{stood}
-use Rattle.rows.specs.ReadRow.{Gathered, all, stopped, after, full, onward, gather, answered, NumbersOver}
+use Rattle.checked.proofs.Copying.{counted}
+use Rattle.rows.specs.ReadRow.{Gathered, all, stopped, after, full, onward, gather, answered, gotten, NumbersOver, GotItems}
+use Rattle.rows.specs.declared.answer.Row.{Row}
 use Rattle.rows.specs.declared.answer.Row.the-variants.{Done, Refused}
 
 -- ---- an answer that has some numbers before it
@@ -127,3 +131,62 @@ answered-all used (stopped r k) e = let z : _≡_ {A = ℕ} 0 1 = cc in absurd (
 pub answered-stopped : (used : ℕ) (x : Gathered) {r : Refusal} {k item : ℕ} → answered used x ≡ Refused r k item → x ≡ stopped r item
 answered-stopped used (all ns) e = let z : _≡_ {A = ℕ} 0 1 = cc in absurd (omega arith)
 answered-stopped used (stopped x j) {r} {k} {item} e = cc
+
+-- ---- what was gathered, turned round
+pub full-not : (f : Front) {ns : List ℕ} → full f ≡ all ns → ⊥
+full-not (number n rest) e = let z : _≡_ {A = ℕ} 0 1 = cc in omega arith
+full-not (refused r) e = let z : _≡_ {A = ℕ} 0 1 = cc in omega arith
+
+after-all : (n : ℕ) (x : Gathered) {ns : List ℕ} → after n x ≡ all ns → (ms : List ℕ) × (x ≡ all ms) × (ns ≡ n ∷ ms)
+after-all n (all ms) {ns} e = let s : n ∷ ms ≡ ns = cc in (ms, refl, sym s)
+after-all n (stopped r k) e = let z : _≡_ {A = ℕ} 0 1 = cc in absurd (omega arith)
+
+pub onward-all : (f : Front) (rest : List ℕ → Gathered) {ns : List ℕ} → onward f rest ≡ all ns
+    → (n : ℕ) × (ds : List ℕ) × (ms : List ℕ) × (f ≡ number n ds) × (rest ds ≡ all ms) × (ns ≡ n ∷ ms)
+onward-all (number n ds) rest e = let (ms, u, v) = after-all n (rest ds) e in (n, ds, ms, refl, u, v)
+onward-all (refused r) rest e = let z : _≡_ {A = ℕ} 0 1 = cc in absurd (omega arith)
+
+-- a row of no cells
+pub gathered-none : (g : ℕ → Rule) (i room : ℕ) {ns : List ℕ} → gather g i room [] ≡ all ns → [] ≡ ns
+gathered-none g i room {ns} e = let f : all [] ≡ all ns = sym (gather-none g i room) ∙ e in cc
+
+-- no more numbers are read than there is room for
+gathered-fits : (g : ℕ → Rule) (i room : ℕ) (cs : List ℕ) {ns : List ℕ} → gather g i room cs ≡ all ns → length ns ≤ room
+gathered-fits g i zero [] e = rw (← gathered-none g i 0 e) (omega arith)
+gathered-fits g i zero (c ∷ cs) e = absurd (full-not (front g i (c ∷ cs)) (sym (gather-full g i (c ∷ cs) (omega arith)) ∙ e))
+gathered-fits g i (suc room) [] e = rw (← gathered-none g i (suc room) e) (omega arith)
+gathered-fits g i (suc room) (c ∷ cs) e =
+    let (n, ds, ms, u, v, w) = onward-all (front g i (c ∷ cs)) (λ rest. gather g i room rest) (sym (gather-more g i room (c ∷ cs) (omega arith)) ∙ e) in
+    omega (arith, ap length w, gathered-fits g i room ds v)
+
+pub gathered-size : (g : ℕ → Rule) (i room : ℕ) (cs : List ℕ) (used : ℕ) {m c : ℕ} → answered used (gather g i room cs) ≡ Done m c
+    → (m ≡ length (gotten (gather g i room cs))) × (m ≤ room)
+gathered-size g i room cs used e =
+    let (ns, f, s, _) = answered-all used (gather g i room cs) e in
+    (sym s ∙ ap (λ (x : Gathered). length (gotten x)) (sym f), omega (arith, gathered-fits g i room cs f))
+
+-- ---- the items: decided over a buffer of the call's own
+pub items-long : {g : ℕ → Rule} {i : ℕ} {cs old last : List ℕ} {r : Row} → GotItems g i cs old last r → length last ≡ length old
+items-long {old = old} {r = Done m c} w = over-long _ old (w .holds)
+items-long {r = Refused x k item} w = ap length (w .holds)
+
+module _ {g : ℕ → Rule} {i : ℕ} {cs first kept : List ℕ} {r : Row} (old : List ℕ) (w : NumbersOver g i (length old) cs first kept r) where
+  pub items-not : {x : Refusal} {k item : ℕ} → r ≡ Refused x k item → GotItems g i cs old old (Refused x k item)
+  items-not q = record { is = sym q ∙ w .is; holds = refl }
+
+  module _ {m c : ℕ} (q : r ≡ Done m c) where
+    many : (m ≡ length (gotten (gather g i (length old) cs))) × (m ≤ length old)
+    many = gathered-size g i (length old) cs (length cs) (sym (w .is) ∙ q)
+
+    pub items-few : m ≤ length old
+    items-few = many .1
+
+    pub items-kept : m ≤ length kept → {last : List ℕ} → last ≡ over (take m kept) old → GotItems g i cs old last (Done m c)
+    items-kept l e = record {
+      is = sym q ∙ w .is;
+      holds = e ∙ ap (λ (xs : List ℕ). over xs old) (counted (gotten (gather g i (length old) cs)) first (w .holds m c q) (many .0) (omega (arith, w .long)));
+    }
+
+    -- what is gathered again is the same
+    pub items-again : {last : List ℕ} {x : Row} → NumbersOver g i (length old) cs old last x → GotItems g i cs old last x
+    items-again {x = x} v = let d : x ≡ Done m c = v .is ∙ sym (w .is) ∙ q in rw d (record { is = sym d ∙ v .is; holds = v .holds m c d })

@@ -1,6 +1,5 @@
 -- What the proofs of the row calls and of the reader cite.
 pub mod Values
-pub mod Items
 pub mod Calls
 pub mod WrittenInTurn
 pub mod Gathering

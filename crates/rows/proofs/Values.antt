@@ -28,7 +28,7 @@ unfolding rowAnswer rowWith
 row-back (Done items cells) = refl
 row-back (Refused r k item) = refused-back (Done 0 0) (λ r. Refused r k item) r
 
-pub row-one : (x y : Row) → rowAnswer x ≡ rowAnswer y → x ≡ y
+row-one : (x y : Row) → rowAnswer x ≡ rowAnswer y → x ≡ y
 row-one x y e = sym (row-back x) ∙ ap rowWith e ∙ row-back y
 
 pub wrote-row-is : {t p : List ℕ} {i : ℕ} {ns old last : List ℕ} {r : Row} → WroteRow t p i ns old last r → r ≡ writesRow t p i (length old) ns

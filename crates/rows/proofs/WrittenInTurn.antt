@@ -6,6 +6,7 @@
 use mathlib.Core.Path.{_≡_, refl, sym, ap, _∙_}
 use mathlib.Core.List.{List, [], _∷_, _++_, append-assoc, append-nil}
 use Prim.Native.Nat.{ℕ, suc, _+_, _-_, _≤_, _<_, min}
+use native.Mathlib.Nat.{add-assoc, zero-add}
 use native.Mathlib.Numerals.{add-one}
 use native.Mathlib.Omega.{arith}
 use lib.ListN.{length, getD, take, drop, length-append, length-drop, length-take, drop-of-length-le}
@@ -23,18 +24,12 @@ use Rattle.rows.specs.declared.answer.Row.{Row}
 use Rattle.rows.specs.declared.answer.Row.the-variants.{Done, Refused}
 
 later-later : (a c b e : ℕ) (r : Row) → later a c (later b e r) ≡ later (a + b) (c + e) r
-later-later a c b e (Done m u) =
-    let x : a + (b + m) ≡ (a + b) + m = omega arith in
-    let y : c + (e + u) ≡ (c + e) + u = omega arith in
-    rw (x, y)
-later-later a c b e (Refused r k item) = let x : a + (b + item) ≡ (a + b) + item = omega arith in rw x
+later-later a c b e (Done m u) = simp add-assoc
+later-later a c b e (Refused r k item) = simp add-assoc
 
 later-none : (r : Row) → later 0 0 r ≡ r
-later-none (Done m u) =
-    let x : 0 + m ≡ m = omega arith in
-    let y : 0 + u ≡ u = omega arith in
-    rw (x, y)
-later-none (Refused r k item) = let x : 0 + item ≡ item = omega arith in rw x
+later-none (Done m u) = simp zero-add
+later-none (Refused r k item) = simp zero-add
 
 module _ (g : ℕ → Rule) (i : ℕ) where
   pub record Tallying (room : ℕ) (ns : List ℕ) (j used : ℕ) : Type 0 where

@@ -158,7 +158,8 @@ module _ {M : Type 1} (𝓤 : URA M) (H : Heap 𝓤) (A : Atoms 𝓤) (W : Given
         → ent 𝓤 (onEntry 𝓤 H A ask.signature (κt, (κp, (κ, tt))) (qt, (qp, (q, tt))) x at) (WpFn 𝓤 H C Λ code.function
         (words t ∷ words p ∷ vint w64 st ∷ words s ∷ []) Post)
     walk is-t is-p is-s =
-        qed W ((‵ (flft κt qt) ⊛ ‵ (flft κp qp) ⊛ ‵ (flft κ q) ⊛ ‵ ftrue) ∷ ‵ (All asker Others) ∷ []) ∵ enter ! C Λ code.function (words t ∷ words p ∷ vint w64 st ∷ words s ∷ []) _ $
+        qed W ((‵ (flft κt qt) ⊛ ‵ (flft κp qp) ⊛ ‵ (flft κ q) ⊛ ‵ ftrue) ∷ ‵ (All asker Others) ∷ []) ∵ enter ! C Λ code.function
+        (words t ∷ words p ∷ vint w64 st ∷ words s ∷ []) _ $
         alloc1 ! (λ l₀. alloc1 ! (λ l₁. alloc1 ! (λ l₂. alloc1 ! (λ l₃. alloc1 ! (λ l₄. alloc1 ! (λ l₅. alloc1 ! (λ l₆. alloc1 ! (λ l₇. alloc1 ! (λ l₈.
         alloc1 ! (λ l₉. alloc1 ! (λ l₁₀. alloc1 ! (λ l₁₁. alloc1 ! (λ l₁₂. alloc1 ! (λ l₁₃. alloc1 ! (λ l₁₄. alloc0 ! $ params1 ! $
         pass1 ! (init ! 26 refl (shr-slice-lawful 𝓤 H A W (named 0) κt u64 .typed t (words t ∷ []) is-t .0)) $
@@ -167,7 +168,8 @@ module _ {M : Type 1} (𝓤 : URA M) (H : Heap 𝓤) (A : Atoms 𝓤) (W : Given
         pass1 ! (init ! 20 refl (shr-slice-lawful 𝓤 H A W (named 2) κ u64 .typed s (words s ∷ []) is-s .0)) $ pass0 ! $
         move ! (30 ∷ []) $ split ! $ move ! (1 ∷ []) $ split ! $ move ! (1 ∷ []) $ split ! $ move ! (1 ∷ []) $ drop ! $
         -- [row's token; pool's; table's; _14; …; _0; …; All]
-        move ! (33 ∷ []) $ use1 W (‵ Row ⊛ ‵ (All asker Others)) for-new $ split ! $ move ! (2 ∷ 0 ∷ []) $ use2 W (raw (New 𝓤 H A at-mem run .pre to-new)) goes-new $
+        move ! (33 ∷ []) $ use1 W (‵ Row ⊛ ‵ (All asker Others)) for-new $ split ! $ move ! (2 ∷ 0 ∷ []) $
+        use2 W (raw (New 𝓤 H A at-mem run .pre to-new)) goes-new $
         -- [what `new` asks; All; pool's token; table's; _14; …; _0; …]
         calls-at ! fm (New 𝓤 H A at-mem run) known-new to-new (and-then ! (load ! (from ! (stop !)) (look ! 24 refl)) (no-more !)) (λ u.
         use1 W (later (some (λ (r : Reader). ((‵ (flft κ q) ⊛ ‵ ftrue) ⊛ ‵ (R .own r (u ∷ []))) ⊛

@@ -1,6 +1,7 @@
 -- `checked::fits::fit_of` is what a walk's word stands for.
 -- Assumes nothing.
-use Rattle.checked.proofs.Fitting.{fit-13, fit-14, fit-cells}
+use borrow.Author.Tests.{le-ltb, ne-eqb}
+use Rattle.walk.proofs.Rooms.{word-left}
 use Rattle.checked.proofs.fits.fit_of.Statement.{statement}
 use Rattle.checked.proofs.fits.fit_of.Tie as tie
 
@@ -9,6 +10,6 @@ fit-of-spec =
     tie.close
     (tie.spec
     (λ c. c .before .pre (c .if1 .taken))
-    (λ c. fit-cells _ _ (c .if1 .taken))
-    (λ c. fit-13 _ _ (c .if2 .taken))
-    (λ c. fit-14 _ _ (c .before .if1 .left) (c .if2 .left)))
+    (λ c. rw (word-left _ (c .if1 .taken)))
+    (λ c. rw (c .if2 .taken))
+    (λ c. rw (le-ltb _ _ (c .before .if1 .left), ne-eqb _ _ (c .if2 .left))))

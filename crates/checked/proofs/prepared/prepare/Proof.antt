@@ -3,7 +3,7 @@
 use borrow.Author.Needs.{needs}
 use native.Mathlib.Omega.{arith}
 use Rattle.grammar.proofs.Tests.{tests}
-use Rattle.checked.proofs.Preparing.{prepared-length, prepared-fault, prepared-ready, prepared-cycles}
+use Rattle.checked.proofs.Opens.{prepared-length, prepared-fault, prepared-ready, prepared-cycles}
 use Rattle.checked.proofs.prepared.prepare.Statement.{statement}
 use Rattle.checked.proofs.prepared.prepare.Tie as tie
 

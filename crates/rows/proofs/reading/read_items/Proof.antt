@@ -1,7 +1,7 @@
 -- `rows::reading::read_items` decides over a buffer of its own, and stores only the numbers of a row that can be read.
 -- Assumes nothing.
 use borrow.Author.Needs.{needs}
-use Rattle.rows.proofs.Items.{items-not, items-few, items-kept, items-again}
+use Rattle.rows.proofs.Gathering.{items-not, items-few, items-kept, items-again}
 use Rattle.rows.proofs.reading.read_items.Statement.{statement}
 use Rattle.rows.proofs.reading.read_items.Tie as tie
 

@@ -2,7 +2,7 @@
 -- Assumes nothing.
 use borrow.Author.Needs.{needs}
 use Rattle.checked.proofs.Opens.{opened-reads}
-use Rattle.rows.proofs.Items.{items-long}
+use Rattle.rows.proofs.Gathering.{items-long}
 use Rattle.rows.proofs.Calls.{got-refused, got-items}
 use Rattle.rows.proofs.reading.read_row_with.Statement.{statement}
 use Rattle.rows.proofs.reading.read_row_with.Tie as tie
