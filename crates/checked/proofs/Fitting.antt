@@ -88,8 +88,7 @@ module _ {plan p : List ℕ} {i : ℕ} (h : Reading plan p i) (n : ℕ) {b : Boo
     is = decided-12 h n a (length old) e;
     long = refl;
     holds = λ k q. let z : _≡_ {A = ℕ} 0 1 = cc in absurd (omega arith);
-    kept = λ _.
-        refl;
+    kept = λ u. refl;
   }
 
   -- the front of the buffer, as long as a case may be, is lent on
@@ -108,12 +107,8 @@ module _ {plan p : List ℕ} {i : ℕ} (h : Reading plan p i) (n : ℕ) {b : Boo
           long = rw g (fits-long l);
           holds = λ k q.
               let (rest, x, y) = cells-left most k (leftOf w) (sym e ∙ q) in
-              let few : length (cells (walk (ruleIn plan p) depth 0 i n)) ≤ most = omega (
-                arith,
-                tally-count most (walk (ruleIn plan p) depth 0 i n)
-                    (sym is ∙ x),
-              ) in
-              g ∙ (ap (λ (xs : List ℕ). xs ++ drop most old) (l .holds rest x) ∙ over-part (cells (walk (ruleIn plan p) depth 0 i n)) old most few);
+              let count = tally-count most (walk (ruleIn plan p) depth 0 i n) (sym is ∙ x) in
+              g ∙ (ap (λ (xs : List ℕ). xs ++ drop most old) (l .holds rest x) ∙ over-part (cells (walk (ruleIn plan p) depth 0 i n)) old most (omega arith));
           kept = λ u. absurd (false≢true (sym u ∙ is-so h n a yes));
         }
 

@@ -90,7 +90,7 @@ module _ (t p : List ℕ) (a : verdict t p ≡ Accepted) (i : ℕ) (l : i < node
   unfolding inTurn rowOf joined
   cut-turns room [] e = ([], none, refl)
   cut-turns room (n ∷ ns) e =
-      let (k, items, used, f, r, s, s') = onward-done g i (fitted g i n room) _ e in
+      let (k, items, used, f, r, s, s') = onward-done (fitted g i n room) _ e in
       let (q, shows, many, few) = fitted-cells g i n room k f in
       let (css, cut, same) = cut-turns (room - k) ns r in
       (caseCells g i n ∷ css, item {cs = caseCells g i n} q (record { shows = shows; few = omega arith }) cut, rw same)

@@ -14,7 +14,7 @@ use lib.Seq.{take-all, take-suc, drop-cons}
 use Rattle.grammar.specs.declared.refusal.Refusal.{Refusal}
 use Rattle.grammar.specs.Rule.{Rule}
 use Rattle.lists.specs.Filled.{over}
-use Rattle.lists.proofs.Fills.{length-over, part-old, part-rest, then}
+use Rattle.lists.proofs.Fills.{length-over, part-old, then}
 use Rattle.checked.specs.Fits.{caseCells, fitted, FitOver}
 use Rattle.checked.specs.declared.fits.Fit.{Fit}
 use Rattle.checked.specs.declared.fits.Fit.the-variants.{Cells, Not}
@@ -30,6 +30,16 @@ later-later a c b e (Refused r k item) = simp add-assoc
 later-none : (r : Row) → later 0 0 r ≡ r
 later-none (Done m u) = simp zero-add
 later-none (Refused r k item) = simp zero-add
+
+-- an answer that is done, turned round
+later-done : (k : ℕ) (x : Row) {m c : ℕ} → later 1 k x ≡ Done m c → (items : ℕ) × (used : ℕ) × (x ≡ Done items used) × (m ≡ 1 + items) × (c ≡ k + used)
+later-done k (Done items used) {m} {c} e = let s : 1 + items ≡ m = cc in let s' : k + used ≡ c = cc in (items, used, refl, sym s, sym s')
+later-done k (Refused r n item) e = let z : _≡_ {A = ℕ} 0 1 = cc in absurd (omega arith)
+
+pub onward-done : (f : Fit) (rest : ℕ → Row) {m c : ℕ} → onward f rest ≡ Done m c
+    → (k : ℕ) × (items : ℕ) × (used : ℕ) × (f ≡ Cells k) × (rest k ≡ Done items used) × (m ≡ 1 + items) × (c ≡ k + used)
+onward-done (Not r) rest e = let z : _≡_ {A = ℕ} 0 1 = cc in absurd (omega arith)
+onward-done (Cells k) rest e = let (items, used, u, s, s') = later-done k (rest k) e in (k, items, used, refl, u, s, s')
 
 module _ (g : ℕ → Rule) (i : ℕ) where
   pub record Tallying (room : ℕ) (ns : List ℕ) (j used : ℕ) : Type 0 where
@@ -112,20 +122,7 @@ module _ (g : ℕ → Rule) (i : ℕ) where
       laying-fits q = omega (arith, tallying-fits (h .tally) l fit-is q, h .tally .fits, laying-long)
 
       pub laying-left : length (take used now ++ (last ++ drop (length now - used) (drop used now))) ≡ length old
-      laying-left =
-          let q : part ≡ drop used now = p ∙ part-old used now in
-          omega (
-            arith,
-            laying-long,
-            e .long,
-            ap length q,
-            length-drop used now,
-            length-take used now,
-            length-append (take used now)
-                (last ++ drop (length now - used) (drop used now)),
-            length-append last (drop (length now - used) (drop used now)),
-            ap length (part-rest used now),
-          )
+      laying-left = simp (length-append, length-take, length-drop) (omega (arith, laying-long, laying-within, part-long, e .long))
 
       pub laying-more : {k : ℕ} → f ≡ Cells k → Laying ns old (take used now ++ (last ++ drop (length now - used) (drop used now))) (j + 1) (used + k)
       laying-more {k} q =
@@ -142,16 +139,6 @@ module _ (g : ℕ → Rule) (i : ℕ) where
           record { is = tallying-stops (h .tally) l fit-is q; long = laying-left; holds = λ m c x. let z : _≡_ {A = ℕ} 0 1 = cc in absurd (omega arith) }
 
   -- ---- a row that is done
-  pub onward-done : (f : Fit) (rest : ℕ → Row) {m c : ℕ} → onward f rest ≡ Done m c
-      → (k : ℕ) × (items : ℕ) × (used : ℕ) × (f ≡ Cells k) × (rest k ≡ Done items used) × (m ≡ 1 + items) × (c ≡ k + used)
-  onward-done (Not r) rest e = let z : _≡_ {A = ℕ} 0 1 = cc in absurd (omega arith)
-  onward-done (Cells k) rest {m} {c} e = by (rest k) refl e
-    where
-      by : (x : Row) → rest k ≡ x → later 1 k x ≡ Done m c
-          → (k' : ℕ) × (items : ℕ) × (used : ℕ) × (Cells k ≡ Cells k') × (rest k' ≡ Done items used) × (m ≡ 1 + items) × (c ≡ k' + used)
-      by (Done items used) u v = let s : 1 + items ≡ m = cc in let s' : k + used ≡ c = cc in (k, items, used, refl, u, sym s, sym s')
-      by (Refused r n item) u v = let z : _≡_ {A = ℕ} 0 1 = cc in absurd (omega arith)
-
   pub done-row : (room : ℕ) (ns : List ℕ) {m c : ℕ} → inTurn g i room ns ≡ Done m c → (m ≡ length ns) × (c ≡ length (rowOf g i ns)) × (c ≤ room)
   unfolding inTurn rowOf
   done-row room [] {m} {c} e = let s : _≡_ {A = ℕ} 0 m = cc in let s' : _≡_ {A = ℕ} 0 c = cc in (sym s, sym s', omega arith)

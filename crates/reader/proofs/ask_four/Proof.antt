@@ -82,10 +82,7 @@ module _ {M : Type 1} (𝓤 : URA M) (H : Heap 𝓤) (A : Atoms 𝓤) (mem : Mem
 
 module _ {M : Type 1} (𝓤 : URA M) (H : Heap 𝓤) (A : Atoms 𝓤) (W : Given 𝓤 H A) (at-mem : Memory → SProp 𝓤) (run : Routine → Fun 𝓤) (κt κp κ : Lft)
     (qt qp q : Share) (t p : RefT (List ℕ)) (st : ℕ) (st-fits : st < 2 ^ 64) (s : RefT (List ℕ)) where
-  abbrev Arg : Type 0
-  Arg = RefT (List ℕ) × (RefT (List ℕ) × (ℕ × (RefT (List ℕ) × Unit {0})))
-
-  abbrev x : Arg
+  abbrev x : RefT (List ℕ) × (RefT (List ℕ) × (ℕ × (RefT (List ℕ) × Unit {0})))
   x = (t, (p, (st, (s, tt))))
 
   abbrev at : Vals ask.signature (κt, (κp, (κ, tt)))

@@ -100,10 +100,7 @@ module _ {M : Type 1} (𝓤 : URA M) (H : Heap 𝓤) (A : Atoms 𝓤) (W : Given
     (q q′ qt qp : Share)
     (bounds : AllOutlive 4 (step.signature .outlives) (κ, (κ′, (κt, (κp, tt))))) (b o : ℕ) (γ : GName) (h : Reader) (t p : RefT (List ℕ)) (st : ℕ)
     (st-fits : st < 2 ^ 64) where
-  abbrev Arg : Type 0
-  Arg = RefT Reader × (RefT (List ℕ) × (RefT (List ℕ) × (ℕ × Unit {0})))
-
-  abbrev x : Arg
+  abbrev x : RefT Reader × (RefT (List ℕ) × (RefT (List ℕ) × (ℕ × Unit {0})))
   x = (record { ptr = (b, o); name = γ; now = h }, (t, (p, (st, tt))))
 
   abbrev at : Vals step.signature (κ, (κ′, (κt, (κp, tt))))
