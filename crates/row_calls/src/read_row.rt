@@ -56,8 +56,8 @@ fn call(
 ) -> usize
     ensures { λ r. ⌜ PrintsRow
         (gotten (gather (rulesOf (now (table .entry)) (now (pool .entry))) start (length (now (numbers .entry))) (now (cells .entry))))
-        (readsRow (now (table .entry)) (now (pool .entry)) start (length (now (numbers .entry))) (now (cells .entry))) (now (numbers .entry)) (now (numbers .exit))
-        (now (page .entry)) used (now (page .exit)) r ⌝ }
+        (readsRow (now (table .entry)) (now (pool .entry)) start (length (now (numbers .entry))) (now (cells .entry))) (now (numbers .entry))
+        (now (numbers .exit)) (now (page .entry)) used (now (page .exit)) r ⌝ }
 {
     fill(numbers);
     match rows::read_row(table, pool, start, cells, numbers) {
