@@ -3,6 +3,7 @@
 --   row-not, -few, -over, -some                START, ROOM and a row
 --   no-cells, cells-fit, cells-text            what a call prints, by what was taken
 --   no-row, row-fits, room-within, room-lent, row-text    the same with a room
+--   not-lent, row-lent                         what the lent buffer holds
 -- Assumes nothing.
 use mathlib.Core.Path.{_≡_, refl, sym, ap, subst, _∙_}
 use mathlib.Core.Bool.{Bool, true, false, cond}
@@ -19,7 +20,7 @@ use Rattle.texts.specs.declared.line.Line.{Line}
 use Rattle.texts.specs.declared.line.Line.the-variants.{Numbers, Unreadable as NoNumbers}
 use Rattle.texts.proofs.line.Answered.{readable-not, ReadNumbers, read-numbers, read-unreadable}
 use Rattle.asking.specs.Fields.{mostRow, mostRoom, mostFields, fieldsOf, cells, noCells, cellsOf, withCells, cellsIn, CellsFit, TakesCells}
-use Rattle.asking.specs.Fields.{row, noRow, rowOf, withRow, rowIn, RowFits, TakesRow}
+use Rattle.asking.specs.Fields.{RowAsked, row, noRow, rowOf, withRow, rowIn, RowFits, TakesRow, lentBy}
 use Rattle.asking.specs.declared.fields.Cells.{Cells}
 use Rattle.asking.specs.declared.fields.Cells.the-variants.{Asked, Unreadable}
 use Rattle.asking.specs.declared.fields.Lent.{Lent}
@@ -147,6 +148,9 @@ module _ {rest old last : List ℕ} {r : Lent} (k : TakesRow rest old last r) wh
   pub no-row : (f : ℕ → ℕ → List ℕ → List ℕ) → r ≡ NoLine → unreadableText ≡ withRow f (rowOf (fieldsOf rest))
   no-row f e = ap (withRow f) (ap (rowIn last) (sym e) ∙ k .asks)
 
+  pub not-lent : (f : ℕ → ℕ → List ℕ → List ℕ → List ℕ) (old : List ℕ) → r ≡ NoLine → old ≡ lentBy f (rowOf (fieldsOf rest)) old
+  not-lent f old e = ap (λ (x : RowAsked). lentBy f x old) (ap (rowIn last) (sym e) ∙ k .asks)
+
   module _ {i room count : ℕ} (e : r ≡ AskedRoom i room count) where
     pub row-fits : (2 ≤ count) × (count ≤ mostFields) × (room ≤ mostRoom)
     row-fits = subst RowFits e (k .fits)
@@ -159,3 +163,6 @@ module _ {rest old last : List ℕ} {r : Lent} (k : TakesRow rest old last r) wh
 
     pub row-text : (f : ℕ → ℕ → List ℕ → List ℕ) → f i room (take (count - 2) (drop 2 last)) ≡ withRow f (rowOf (fieldsOf rest))
     row-text f = ap (withRow f) (ap (rowIn last) (sym e) ∙ k .asks)
+
+    pub row-lent : (f : ℕ → ℕ → List ℕ → List ℕ → List ℕ) (old : List ℕ) → f i room (take (count - 2) (drop 2 last)) old ≡ lentBy f (rowOf (fieldsOf rest)) old
+    row-lent f old = ap (λ (x : RowAsked). lentBy f x old) (ap (rowIn last) (sym e) ∙ k .asks)

@@ -5,6 +5,7 @@
 --   cellsOf, withCells     START CELL CELL .. in the fields, and what a call with them prints
 --   rowOf, withRow         START, ROOM and a row in the fields, and what a call with them prints
 --   TakesCells, TakesRow   what taking them answers, and the words that hold the fields then
+--   CellsCall, LentCall    what a call of either form puts on the page, and leaves in what is lent to it
 -- Assumes nothing.
 use mathlib.Core.Path.{_≡_}
 use mathlib.Core.Bool.{cond, _&&_}
@@ -13,6 +14,7 @@ use Prim.Native.Nat.{ℕ, _-_, _≤_}
 use lib.Dec.{leb}
 use lib.ListN.{length, take, drop}
 use Rattle.texts.specs.Line.{Reading, numbers, unreadable, lineAt, within, stored}
+use Rattle.texts.specs.Page.{Puts}
 use Rattle.texts.specs.Said.{unreadableText}
 use Rattle.asking.specs.declared.fields.Cells.{Cells}
 use Rattle.asking.specs.declared.fields.Cells.the-variants.{Asked, Unreadable}
@@ -87,3 +89,19 @@ pub record TakesRow (rest old last : List ℕ) (r : Lent) : Type 0 where
   pub asks : rowIn last r ≡ rowOf (fieldsOf rest)
   pub fits : RowFits r
   pub leaves : last ≡ stored old (within (length old) (fieldsOf rest))
+
+-- ---- the whole call
+pub record CellsCall (text rest fields fields' page : List ℕ) (used : ℕ) (page' : List ℕ) (r : ℕ) : Type 0 where
+  pub puts : Puts text page used page' r
+  pub leaves : fields' ≡ stored fields (within (length fields) (fieldsOf rest))
+
+-- the lent buffer, by START, ROOM, the row and its words before
+abbrev pub lentBy : (ℕ → ℕ → List ℕ → List ℕ → List ℕ) → RowAsked → List ℕ → List ℕ
+lentBy f (row i room ws) old = f i room ws old
+lentBy f noRow old = old
+
+pub record LentCall (text : List ℕ) (f : ℕ → ℕ → List ℕ → List ℕ → List ℕ) (rest fields fields' buffer buffer' page : List ℕ) (used : ℕ) (page' : List ℕ)
+    (r : ℕ) : Type 0 where
+  pub puts : Puts text page used page' r
+  pub leaves : fields' ≡ stored fields (within (length fields) (fieldsOf rest))
+  pub lent : buffer' ≡ lentBy f (rowOf (fieldsOf rest)) buffer

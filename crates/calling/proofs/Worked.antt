@@ -67,5 +67,6 @@ worked : map asked prints ≡ map expected prints
 unfolding walking fitted opening frontOf wholeOf writes reads writesRow Written.inTurn Written.rowOf gather readsRow next nextOf run valueFrom
     wellFormed numeral decimalBy decimal ended words numberOfWord numbersOf lineAt unreadableText numberLine itemText refusedText
     refusedLine refusedItem itemsText spaced cellsText readable wordSize same checkText checkCall foundText readText readCall writeText caseText alone
-    writeCall rowText writeRowText writeRowCall readRowText readRowCall asksBy asksText readerCall chosen lineText lineSize after lineOf tableAt saidAt nextAt nextKnown printedBy printed
+    writeCall rowText writeRowText writeRowCall readRowText readRowCall asksBy asksText readerCall chosen lineText lineSize after lineOf tableAt saidAt
+    nextAt nextKnown printedBy printed
 worked = refl

@@ -1,12 +1,12 @@
 -- What `write` has printed, and left in the buffer: its other words are as they were.
 --   prints-done, prints-refused    by its answer
---   one-not, one-text              by its numbers: it has one
+--   one-not, one-text, one-kept, one-leaves    by its numbers: it has one
 -- Assumes nothing.
 use mathlib.Core.Path.{_≡_, refl, ap, _∙_}
 use mathlib.Core.List.{List, [], _∷_, _++_}
 use Prim.Native.Nat.{ℕ}
 use native.Mathlib.Omega.{arith}
-use lib.ListN.{length, getD, take}
+use lib.ListN.{length, getD, take, drop}
 use Rattle.grammar.specs.Sizes.{rulesOf}
 use Rattle.grammar.specs.declared.refusal.Refusal.{Refusal}
 use Rattle.walk.specs.Walk.{walk, cells, depth}
@@ -21,7 +21,7 @@ use Rattle.texts.proofs.page.Putting.{told}
 use Rattle.asking.specs.Buffer.{startWords}
 use Rattle.asking.specs.Texts.{cellsText, endText}
 use Rattle.asking.proofs.Buffers.{filled-length, end-done, end-left}
-use Rattle.case_calls.specs.Write.{writeText, caseText, PrintsCase, alone}
+use Rattle.case_calls.specs.Write.{writeText, caseText, PrintsCase, alone, writeLeaves}
 
 module _ {t p : List ℕ} {i n : ℕ} (old : List ℕ) {filled last : List ℕ} {r : Written} (start : filled ≡ startWords 0 (length old))
     (k : Wrote t p i n filled last r) where
@@ -59,3 +59,18 @@ module _ (f : ℕ → ℕ → ℕ → List ℕ) (i room : ℕ) where
   one-text [] h = absurd (omega arith)
   one-text (n ∷ []) h = refl
   one-text (n ∷ m ∷ ns) h = absurd (omega arith)
+
+module _ (t p : List ℕ) (i room : ℕ) (old : List ℕ) where
+  pub one-kept : (ns : List ℕ) → (length ns ≡ 1 → ⊥) → old ≡ writeLeaves t p i room ns old
+  unfolding writeLeaves
+  one-kept [] h = refl
+  one-kept (n ∷ []) h = absurd (h refl)
+  one-kept (n ∷ m ∷ ns) h = refl
+
+  pub one-leaves : (ns : List ℕ) → length ns ≡ 1 → {ws : List ℕ}
+      → ws ≡ leaves (writes t p i (getD ns 0 0) room) (cells (walk (rulesOf t p) depth 0 i (getD ns 0 0))) (startWords 0 room)
+      → ws ++ drop room old ≡ writeLeaves t p i room ns old
+  unfolding writeLeaves
+  one-leaves [] h e = absurd (omega arith)
+  one-leaves (n ∷ []) h e = ap (_++ drop room old) e
+  one-leaves (n ∷ m ∷ ns) h e = absurd (omega arith)

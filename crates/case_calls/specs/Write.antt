@@ -2,12 +2,13 @@
 --   writeText     of an answer, and of the words that the call wrote
 --   caseText      of a number, with a buffer of so many words
 --   PrintsCase    what is put on the page, and the words of the buffer
+--   writeLeaves   what a lent buffer holds then
 --   writeCall     of the rest of its line
 -- Assumes nothing.
 use mathlib.Core.Path.{_≡_}
 use mathlib.Core.List.{List, [], _∷_, _++_}
 use Prim.Native.Nat.{ℕ}
-use lib.ListN.{length}
+use lib.ListN.{length, drop}
 use Rattle.grammar.specs.Sizes.{rulesOf}
 use Rattle.walk.specs.Walk.{walk, cells, depth}
 use Rattle.cases.specs.Write.{writes, leaves}
@@ -36,6 +37,11 @@ unfoldable pub alone : (ℕ → ℕ → ℕ → List ℕ) → ℕ → ℕ → Li
 alone f i room [] = unreadableText
 alone f i room (n ∷ []) = f i room n
 alone f i room (n ∷ m ∷ ns) = unreadableText
+
+unfoldable pub writeLeaves : List ℕ → List ℕ → ℕ → ℕ → List ℕ → List ℕ → List ℕ
+writeLeaves t p i room [] old = old
+writeLeaves t p i room (n ∷ []) old = leaves (writes t p i n room) (cells (walk (rulesOf t p) depth 0 i n)) (startWords 0 room) ++ drop room old
+writeLeaves t p i room (n ∷ m ∷ ns) old = old
 
 unfoldable pub writeCall : List ℕ → List ℕ → List ℕ → List ℕ
 writeCall t p rest = withRow (alone (caseText t p)) (rowOf (fieldsOf rest))

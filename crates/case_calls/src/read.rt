@@ -1,5 +1,5 @@
 // `read START CELL CELL ..`: the number of a case, from its cells.
-ghost use Rattle.texts.specs.Page.{Puts};
+ghost use Rattle.asking.specs.Fields.{CellsCall};
 ghost use Rattle.case_calls.specs.Read.{readCall};
 use asking::answers::number_line;
 use asking::fields::AFTER_START;
@@ -19,7 +19,8 @@ pub fn answer(
     page: &mut [u8; PAGE_BYTES],
     used: usize,
 ) -> usize
-    ensures { λ r. ⌜ Puts (readCall (now (table .entry)) (now (pool .entry)) (now (rest .entry))) (now (page .entry)) used (now (page .exit)) r ⌝ }
+    ensures { λ r. ⌜ CellsCall (readCall (now (table .entry)) (now (pool .entry)) (now (rest .entry))) (now (rest .entry)) (now (fields .entry))
+        (now (fields .exit)) (now (page .entry)) used (now (page .exit)) r ⌝ }
 {
     let Cells::Asked(start, count) = take_cells(rest, fields) else {
         return unreadable(page, used);

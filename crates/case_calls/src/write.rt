@@ -1,9 +1,8 @@
 // `write START ROOM NUMBER`: the cells of a number, in a lent buffer.
 ghost use Prim.Native.Nat.{_≤_};
 ghost use lib.ListN.{length};
-ghost use Rattle.texts.specs.Page.{Puts};
-ghost use Rattle.asking.specs.Fields.{mostRoom};
-ghost use Rattle.case_calls.specs.Write.{PrintsCase, writeCall};
+ghost use Rattle.asking.specs.Fields.{mostRoom, LentCall};
+ghost use Rattle.case_calls.specs.Write.{PrintsCase, writeLeaves, writeCall};
 use asking::answers::end_line;
 use asking::answers::listed_line;
 use asking::buffer::fill;
@@ -26,7 +25,9 @@ pub fn answer(
     used: usize,
 ) -> usize
     requires { ⌜ mostRoom ≤ length (now buffer) ⌝ }
-    ensures { λ r. ⌜ Puts (writeCall (now (table .entry)) (now (pool .entry)) (now (rest .entry))) (now (page .entry)) used (now (page .exit)) r ⌝ }
+    ensures { λ r. ⌜ LentCall (writeCall (now (table .entry)) (now (pool .entry)) (now (rest .entry)))
+        (writeLeaves (now (table .entry)) (now (pool .entry))) (now (rest .entry)) (now (fields .entry)) (now (fields .exit)) (now (buffer .entry))
+        (now (buffer .exit)) (now (page .entry)) used (now (page .exit)) r ⌝ }
 {
     let Lent::Asked(start, room, count) = take_row(rest, fields) else {
         return unreadable(page, used);

@@ -1,12 +1,11 @@
 // `read-row START ROOM CELL ..`: the numbers of a row of cases, from its cells, in a lent buffer.
 ghost use Prim.Native.Nat.{_≤_};
 ghost use lib.ListN.{length};
-ghost use Rattle.texts.specs.Page.{Puts};
-ghost use Rattle.asking.specs.Fields.{mostRoom};
+ghost use Rattle.asking.specs.Fields.{mostRoom, LentCall};
 ghost use Rattle.grammar.specs.Sizes.{rulesOf};
 ghost use Rattle.rows.specs.ReadRow.{gather, gotten, readsRow};
 ghost use Rattle.row_calls.specs.Row.{PrintsRow};
-ghost use Rattle.row_calls.specs.ReadRow.{readRowCall};
+ghost use Rattle.row_calls.specs.ReadRow.{readRowLeaves, readRowCall};
 use asking::answers::done_line;
 use asking::answers::refused_at_item;
 use asking::buffer::fill;
@@ -28,7 +27,9 @@ pub fn answer(
     used: usize,
 ) -> usize
     requires { ⌜ mostRoom ≤ length (now buffer) ⌝ }
-    ensures { λ r. ⌜ Puts (readRowCall (now (table .entry)) (now (pool .entry)) (now (rest .entry))) (now (page .entry)) used (now (page .exit)) r ⌝ }
+    ensures { λ r. ⌜ LentCall (readRowCall (now (table .entry)) (now (pool .entry)) (now (rest .entry)))
+        (readRowLeaves (now (table .entry)) (now (pool .entry))) (now (rest .entry)) (now (fields .entry)) (now (fields .exit)) (now (buffer .entry))
+        (now (buffer .exit)) (now (page .entry)) used (now (page .exit)) r ⌝ }
 {
     let Lent::Asked(start, room, count) = take_row(rest, fields) else {
         return unreadable(page, used);
@@ -56,8 +57,8 @@ fn call(
 ) -> usize
     ensures { λ r. ⌜ PrintsRow
         (gotten (gather (rulesOf (now (table .entry)) (now (pool .entry))) start (length (now (numbers .entry))) (now (cells .entry))))
-        (readsRow (now (table .entry)) (now (pool .entry)) start (length (now (numbers .entry))) (now (cells .entry))) (now (numbers .entry)) (now (numbers .exit))
-        (now (page .entry)) used (now (page .exit)) r ⌝ }
+        (readsRow (now (table .entry)) (now (pool .entry)) start (length (now (numbers .entry))) (now (cells .entry))) (now (numbers .entry))
+        (now (numbers .exit)) (now (page .entry)) used (now (page .exit)) r ⌝ }
 {
     fill(numbers);
     match rows::read_row(table, pool, start, cells, numbers) {

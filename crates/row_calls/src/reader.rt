@@ -1,5 +1,6 @@
 // `reader START CELL CELL ..`: the cases of a row, asked for one at a time.
 ghost use Rattle.texts.specs.Page.{Puts};
+ghost use Rattle.asking.specs.Fields.{CellsCall};
 ghost use Rattle.row_calls.specs.Reader.{asksText, readerCall};
 use asking::answers::item_line;
 use asking::fields::AFTER_START;
@@ -20,7 +21,8 @@ pub fn answer(
     page: &mut [u8; PAGE_BYTES],
     used: usize,
 ) -> usize
-    ensures { λ r. ⌜ Puts (readerCall (now (table .entry)) (now (pool .entry)) (now (rest .entry))) (now (page .entry)) used (now (page .exit)) r ⌝ }
+    ensures { λ r. ⌜ CellsCall (readerCall (now (table .entry)) (now (pool .entry)) (now (rest .entry))) (now (rest .entry)) (now (fields .entry))
+        (now (fields .exit)) (now (page .entry)) used (now (page .exit)) r ⌝ }
 {
     let Cells::Asked(start, count) = take_cells(rest, fields) else {
         return unreadable(page, used);

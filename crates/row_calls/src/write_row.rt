@@ -1,12 +1,11 @@
 // `write-row START ROOM NUMBER ..`: the cells of numbers, one case after another, in a lent buffer.
 ghost use Prim.Native.Nat.{_≤_};
 ghost use lib.ListN.{length};
-ghost use Rattle.texts.specs.Page.{Puts};
-ghost use Rattle.asking.specs.Fields.{mostRoom};
+ghost use Rattle.asking.specs.Fields.{mostRoom, LentCall};
 ghost use Rattle.grammar.specs.Sizes.{rulesOf};
 ghost use Rattle.rows.specs.WriteRow.{rowOf, writesRow};
 ghost use Rattle.row_calls.specs.Row.{PrintsRow};
-ghost use Rattle.row_calls.specs.WriteRow.{writeRowCall};
+ghost use Rattle.row_calls.specs.WriteRow.{writeRowLeaves, writeRowCall};
 use asking::answers::done_line;
 use asking::answers::refused_at_item;
 use asking::buffer::fill;
@@ -28,7 +27,9 @@ pub fn answer(
     used: usize,
 ) -> usize
     requires { ⌜ mostRoom ≤ length (now buffer) ⌝ }
-    ensures { λ r. ⌜ Puts (writeRowCall (now (table .entry)) (now (pool .entry)) (now (rest .entry))) (now (page .entry)) used (now (page .exit)) r ⌝ }
+    ensures { λ r. ⌜ LentCall (writeRowCall (now (table .entry)) (now (pool .entry)) (now (rest .entry)))
+        (writeRowLeaves (now (table .entry)) (now (pool .entry))) (now (rest .entry)) (now (fields .entry)) (now (fields .exit)) (now (buffer .entry))
+        (now (buffer .exit)) (now (page .entry)) used (now (page .exit)) r ⌝ }
 {
     let Lent::Asked(start, room, count) = take_row(rest, fields) else {
         return unreadable(page, used);

@@ -12,9 +12,7 @@ end-line-spec =
     (λ c κs. search needs)
     (λ c. search needs)
     (λ c κs. search needs)
-    (λ c. let at-if1 = c .before .before .before in let at-changed-from = at-if1 .before in
-    end-changed _ _ (at-changed-from .changed-from .ensures) (at-if1 .if1 .taken) (c .put-text .ensures))
+    (λ c. search end-changed)
     (λ c. search needs)
     (λ c κs. search needs)
-    (λ c. let at-if1 = c .before .before .before in let at-changed-from = at-if1 .before in
-    end-kept _ _ (at-changed-from .changed-from .ensures) (at-if1 .if1 .left) (c .put-text2 .ensures)))
+    (λ c. search end-kept))

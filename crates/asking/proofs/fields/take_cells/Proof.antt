@@ -1,7 +1,6 @@
 -- `asking::fields::take_cells` reads the fields, and takes START and the cells where there are as many as there may be.
 -- Assumes nothing.
 use borrow.Author.Needs.{needs}
-use native.Mathlib.Omega.{arith}
 use Rattle.asking.proofs.Taking.{cells-not, cells-none, cells-many, cells-some}
 use Rattle.asking.proofs.fields.take_cells.Statement.{statement}
 use Rattle.asking.proofs.fields.take_cells.Tie as tie

@@ -1,7 +1,6 @@
 -- `asking::fields::take_row` reads the fields, and takes START, ROOM and the row where there are as many as there may be.
 -- Assumes nothing.
 use borrow.Author.Needs.{needs}
-use native.Mathlib.Omega.{arith}
 use Rattle.asking.proofs.Taking.{row-not, row-few, row-over, row-some}
 use Rattle.asking.proofs.fields.take_row.Statement.{statement}
 use Rattle.asking.proofs.fields.take_row.Tie as tie

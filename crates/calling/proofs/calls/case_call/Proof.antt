@@ -1,7 +1,6 @@
 -- `calling::calls::case_call` makes the call on one case that its word names, or hands the word on.
 -- Assumes nothing.
 use borrow.Author.Needs.{needs}
-use mathlib.Core.Path.{refl}
 use Rattle.texts.proofs.page.Putting.{told}
 use Rattle.calling.proofs.Named.{first, next}
 use Rattle.calling.proofs.calls.case_call.Statement.{statement}
@@ -18,10 +17,10 @@ case-call-spec =
     (λ c. search needs)
     (λ c κs. search needs)
     (λ c κs. search needs)
-    (λ c. told (search (first, next)) (c .answer2 .ensures))
+    (λ c. told (search (first, next)) (c .answer2 .ensures .puts))
     (λ c. search needs)
     (λ c κs. search needs)
     (λ c κs. search needs)
-    (λ c. told (search (first, next)) (c .answer3 .ensures))
+    (λ c. told (search (first, next)) (c .answer3 .ensures .puts))
     (λ c κs. search needs)
-    (λ c. told (search (refl, next)) (c .row-call .ensures)))
+    (λ c. told (search next) (c .row-call .ensures)))

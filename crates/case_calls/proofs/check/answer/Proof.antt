@@ -16,8 +16,7 @@ answer-spec =
     (λ c. search needs)
     (λ c κs. search needs)
     (λ c κs. search needs)
-    (λ c. let at-if1 = c .before .before in let at-same = at-if1 .before in
-    told (check-not _ _ _ (at-same .same .ensures) (at-if1 .if1 .taken)) (c .unreadable .ensures))
+    (λ c. told (search check-not) (c .unreadable .ensures))
     (λ c κs. search needs)
     (λ c. search needs)
     (λ c. search needs)

@@ -19,7 +19,8 @@ answer-spec =
     (λ c. search needs)
     (λ c. search needs)
     (λ c κs. search needs)
-    (λ c. told (search no-cells) (c .unreadable .ensures))
+    (λ c. let at-take-cells = c .before .before .before .before in
+    record { puts = told (search no-cells) (c .unreadable .ensures); leaves = at-take-cells .take-cells .ensures .leaves })
     (λ c. let at-start = c .before .before .before in let at-take-cells = at-start .before .before in
     cells-fit (at-take-cells .take-cells .ensures) (at-start .start .given .1) .0)
     (λ c. let at-start = c .before .before .before in let at-take-cells = at-start .before .before in
@@ -33,9 +34,9 @@ answer-spec =
     (λ c κs. search needs)
     (λ c. let at-found = c .before .before .before in let at-read = at-found .before .before in
     let at-start = at-read .before .before .before .before .before in let at-take-cells = at-start .before .before in
-    told (read-text _ _ (at-take-cells .take-cells .ensures) (at-start .start .given .1) (read-is _ _ _ _ (at-read .read .ensures)) (at-found .found .given
-    .1)) (c .number-line .ensures))
+    let said = read-text _ _ (at-take-cells .take-cells .ensures) (at-start .start .given .1) (read-is _ _ _ _ (at-read .read .ensures)) (at-found .found
+    .given .1) in record { puts = told said (c .number-line .ensures); leaves = at-take-cells .take-cells .ensures .leaves })
     (λ c. let at-refusal = c .before .before .before in let at-read = at-refusal .before .before in
     let at-start = at-read .before .before .before .before .before in let at-take-cells = at-start .before .before in
-    told (read-text _ _ (at-take-cells .take-cells .ensures) (at-start .start .given .1) (read-is _ _ _ _ (at-read .read .ensures)) (at-refusal .refusal
-    .given .1)) (c .refused-line .ensures)))
+    let said = read-text _ _ (at-take-cells .take-cells .ensures) (at-start .start .given .1) (read-is _ _ _ _ (at-read .read .ensures)) (at-refusal
+    .refusal .given .1) in record { puts = told said (c .refused-line .ensures); leaves = at-take-cells .take-cells .ensures .leaves }))

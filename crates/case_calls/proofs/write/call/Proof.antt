@@ -21,9 +21,7 @@ call-spec =
     (λ c κs. search needs)
     (λ c κs. search needs)
     (λ c. search needs)
-    (λ c. let at-count = c .before .before .before .before in let at-write = at-count .before .before .before .before in
-    let at-fill = at-write .before .before .before .before in prints-done _ (at-fill .fill .ensures) (at-write .write .ensures) (at-count .count .given .1)
-    (c .listed-line .ensures))
+    (λ c. search prints-done)
     (λ c. search needs)
     (λ c. let at-refused = c .before .before .before in let at-refusal = at-refused .before .before .before in
     let at-write = at-refusal .before .before .before .before in let at-fill = at-write .before .before .before .before in

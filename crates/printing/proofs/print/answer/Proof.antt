@@ -14,7 +14,7 @@ answer-spec =
     tie.close
     (tie.spec
     (λ c κs. search needs)
-    (λ c. let at-if1 = c .before .before in told (too-long _ (at-if1 .if1 .taken)) (c .unreadable .ensures))
+    (λ c. told (search too-long) (c .unreadable .ensures))
     (λ c. search needs)
     (λ c κs. search needs)
     (λ c. search needs)

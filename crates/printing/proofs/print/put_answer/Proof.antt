@@ -21,7 +21,5 @@ put-answer-spec =
     (λ c κs. search needs)
     (λ c. search needs)
     (λ c κs. search needs)
-    (λ c. let at-count = c .before .before .before .before in let at-write = at-count .before .before .before in
-    case-done (at-write .write .ensures) (omega arith) _ (at-count .count .given .1) (c .put-case .ensures))
-    (λ c. let at-r = c .before .before .before in let at-write = at-r .before .before .before in
-    case-refused (at-write .write .ensures) (omega arith) (at-r .r .given .1) (c .put-case-refused .ensures)))
+    (λ c. search (needs, case-done))
+    (λ c. search (needs, case-refused)))

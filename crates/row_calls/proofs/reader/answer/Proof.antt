@@ -17,7 +17,8 @@ answer-spec =
     (λ c. search needs)
     (λ c. search needs)
     (λ c κs. search needs)
-    (λ c. told (search no-cells) (c .unreadable .ensures))
+    (λ c. let at-take-cells = c .before .before .before .before in
+    record { puts = told (search no-cells) (c .unreadable .ensures); leaves = at-take-cells .take-cells .ensures .leaves })
     (λ c. let at-start = c .before .before .before in let at-take-cells = at-start .before .before in
     cells-fit (at-take-cells .take-cells .ensures) (at-start .start .given .1) .0)
     (λ c. let at-start = c .before .before .before in let at-take-cells = at-start .before .before in
@@ -26,4 +27,7 @@ answer-spec =
     omega (arith, cells-fit (at-take-cells .take-cells .ensures) (at-start .start .given .1), c .words2 .given))
     (λ c κs. search needs)
     (λ c. let at-start = c .before .before .before .before .before .before in let at-take-cells = at-start .before .before in
-    told (cells-text (at-take-cells .take-cells .ensures) (at-start .start .given .1) _) (c .call .ensures)))
+    record {
+      puts = told (cells-text (at-take-cells .take-cells .ensures) (at-start .start .given .1) _) (c .call .ensures);
+      leaves = at-take-cells .take-cells .ensures .leaves;
+    }))

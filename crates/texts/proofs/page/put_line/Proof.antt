@@ -11,7 +11,7 @@ put-line-spec =
     (tie.spec
     (λ c. search needs)
     (λ c κs. search needs)
-    (λ c. let at-if1 = c .before .before .before in line-none _ (at-if1 .if1 .taken) (c .put-text .ensures))
+    (λ c. search line-none)
     (λ c. search needs)
     (λ c κs. search needs)
     (λ c. search needs)
@@ -20,6 +20,4 @@ put-line-spec =
     (λ c κs. search needs)
     (λ c. search needs)
     (λ c κs. search needs)
-    (λ c. let at-put-numbers = c .before .before .before in let at-put-number = at-put-numbers .before .before .before in
-    let at-if1 = at-put-number .before .before .before in line-some _ (at-if1 .if1 .left) (at-put-number .put-number .ensures) (at-put-numbers .put-numbers
-    .ensures) (c .put-text2 .ensures)))
+    (λ c. search line-some))

@@ -28,6 +28,5 @@ put-numbers-spec =
     (λ c κs. search needs)
     (λ c. search needs)
     (λ c. omega arith)
-    (λ c. let at-put-text = c .before .before .before in let at-loop-test = at-put-text .before .before .before in let at-loop = at-loop-test .before in
-    list-more (at-loop .loop .inv) (at-loop-test .loop-test .taken) (at-put-text .put-text .ensures) (c .put-number .ensures))
+    (λ c. search list-more)
     (λ c. list-all (c .before .loop .inv) (c .loop-test .left)))

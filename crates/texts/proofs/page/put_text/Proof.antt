@@ -27,6 +27,5 @@ put-text-spec =
     (λ c. omega (arith, place-within _ (c .before .place .ensures)))
     (λ c. search needs)
     (λ c. omega arith)
-    (λ c. let at-loop-test = c .before .before .before in let at-loop = at-loop-test .before in
-    put-more (at-loop .loop .inv) (at-loop-test .loop-test .taken) (c .before .place .ensures))
+    (λ c. search put-more)
     (λ c. put-all (c .before .loop .inv) (c .loop-test .left)))
