@@ -1,7 +1,6 @@
 -- `calling::answer_line` takes a table, or makes the call of a line.
 -- Assumes nothing.
 use borrow.Author.Needs.{needs}
-use mathlib.Core.Path.{refl}
 use native.Mathlib.Omega.{arith}
 use Rattle.calling.proofs.Input.{next-from, next-within, turn-table, turn-call}
 use Rattle.calling.proofs.answer_line.Statement.{statement}
@@ -21,12 +20,4 @@ answer-line-spec =
     (λ c. search turn-table)
     (λ c κs. let at-pre = c .before .before .before .before .before .before .before .before .before .before .before .before .before in
     (omega (arith, at-pre .pre .0 .table), omega (arith, at-pre .pre .0 .pool)))
-    (λ c. let at-if1 = c .before .before .before .before .before .before .before .before in let at-same = at-if1 .before in
-    let at-after = at-same .before .before .before in let at-pre = at-after .before .before in
-    turn-call _ _ (at-pre .pre .1) (at-after .after .ensures) (at-same .same .ensures) (at-if1 .if1 .left) (c .answer .ensures) (at-pre .pre .0) (
-      refl,
-      refl,
-      refl,
-      refl,
-      refl,
-    )))
+    (λ c. search turn-call))

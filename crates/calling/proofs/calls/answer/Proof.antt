@@ -13,7 +13,7 @@ answer-spec =
     tie.close
     (tie.spec
     (λ c κs. search needs)
-    (λ c. let at-if1 = c .before .before in told (line-unknown _ _ _ _ (at-if1 .if1 .taken)) (c .unreadable .ensures))
+    (λ c. told (search line-unknown) (c .unreadable .ensures))
     (λ c κs. search needs)
     (λ c. simp length-take (omega arith))
     (λ c. simp length-take (omega arith))
@@ -22,5 +22,4 @@ answer-spec =
     (λ c. search needs)
     (λ c. search needs)
     (λ c κs. search needs)
-    (λ c. let at-word-size = c .before .before .before .before .before .before .before .before in let at-if1 = at-word-size .before in
-    told (line-call _ _ _ _ (at-if1 .if1 .left) (at-word-size .word-size .ensures .0)) (c .case-call .ensures)))
+    (λ c. told (search line-call) (c .case-call .ensures)))
