@@ -7,7 +7,7 @@ mod state;
 ghost use mathlib.Core.Path.{_≡_};
 ghost use Prim.Native.Nat.{_<_};
 ghost use lib.ListN.{length};
-ghost use Rattle.texts.specs.Page.{Puts};
+ghost use Rattle.texts.specs.Page.{Puts, Waits};
 ghost use Rattle.calling.specs.Input.{printed};
 ghost use Rattle.calling.specs.Line.{readable as isReadable};
 ghost use Rattle.calling.specs.State.{Within, Turns};
@@ -19,10 +19,29 @@ use state::MOST_TABLE_WORDS;
 use state::State;
 use texts::ascii::LF;
 use texts::page::PAGE_BYTES;
+use texts::page::flush;
 use texts::said::unreadable;
 
 // One byte more than the longest input, to see that an input is longer: it is unreadable as a whole.
 pub const INPUT_ROOM: usize = 4194305;
+
+// Prints all that an input asks for, on standard output. It answers how many bytes wait then: none.
+pub fn print_all(text: &[u8]) -> usize
+    ensures { λ r. ⌜ r ≡ 0 ⌝ }
+{
+    let mut page = [0u8; PAGE_BYTES];
+    let used = answer(text, &mut page);
+    finish(text, &page, used)
+}
+
+// Writes out what waits. What is written is in no contract, so the caller has to show that it is the end of
+// what the text prints.
+fn finish(text: &[u8], page: &[u8; PAGE_BYTES], used: usize) -> usize
+    requires { ⌜ Waits (printed (now text)) (now page) used ⌝ }
+    ensures { λ r. ⌜ r ≡ 0 ⌝ }
+{
+    flush(page, used)
+}
 
 // Answers each line of an input, on a page where nothing waits.
 pub fn answer(text: &[u8], page: &mut [u8; PAGE_BYTES]) -> usize

@@ -4,8 +4,6 @@ use libc::STDIN_FILENO;
 use libc::STDOUT_FILENO;
 use texts::numeral::Numeral;
 use texts::numeral::number_at;
-use texts::page::PAGE_BYTES;
-use texts::page::flush;
 
 const INPUT_ROOM: usize = 1048576;
 
@@ -22,7 +20,6 @@ fn print_input(room: &mut [u8; INPUT_ROOM]) {
 }
 
 fn print_each(text: &[u8]) {
-    let mut page = [0u8; PAGE_BYTES];
     let mut at = 0;
     while at < text.len() {
         let Numeral::Of(count, end) = number_at(text, at) else {
@@ -40,8 +37,7 @@ fn print_each(text: &[u8]) {
             return;
         }
         let next = start + size;
-        let used = printing::answer(&text[start..next], &mut page);
-        flush(&page, used);
+        printing::print_all(&text[start..next]);
         io::write_all(STDOUT_FILENO, b"--\n");
         at = next;
     }

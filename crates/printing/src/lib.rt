@@ -4,3 +4,4 @@ mod print;
 
 pub use input::INPUT_ROOM;
 pub use print::answer;
+pub use print::print_all;

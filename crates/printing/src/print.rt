@@ -1,6 +1,6 @@
 // What an input prints: all of it is put on a page.
 ghost use mathlib.Core.Path.{_≡_};
-ghost use Rattle.texts.specs.Page.{Puts};
+ghost use Rattle.texts.specs.Page.{Puts, Waits};
 ghost use Rattle.printing.specs.Texts.{caseText, caseRefusedText};
 ghost use Rattle.checked.specs.Opening.{opening};
 ghost use Rattle.printing.specs.Input.{poolLine, oneAt, withStart, withPool};
@@ -20,6 +20,7 @@ use grammar::refusal::number_of;
 use texts::line::Line;
 use texts::line::numbers_at;
 use texts::page::PAGE_BYTES;
+use texts::page::flush;
 use texts::page::put_line;
 use texts::page::put_number;
 use texts::page::put_text;
@@ -28,6 +29,24 @@ use texts::said::unreadable;
 
 // "The program has room for 4,096 cells, so a longer case is refused 14."
 const ROOM: usize = 4096;
+
+// Prints all that an input asks for, on standard output. It answers how many bytes wait then: none.
+pub fn print_all(text: &[u8]) -> usize
+    ensures { λ r. ⌜ r ≡ 0 ⌝ }
+{
+    let mut page = [0u8; PAGE_BYTES];
+    let used = answer(text, &mut page);
+    finish(text, &page, used)
+}
+
+// Writes out what waits. What is written is in no contract, so the caller has to show that it is the end of
+// what the text prints.
+fn finish(text: &[u8], page: &[u8; PAGE_BYTES], used: usize) -> usize
+    requires { ⌜ Waits (printed (now text)) (now page) used ⌝ }
+    ensures { λ r. ⌜ r ≡ 0 ⌝ }
+{
+    flush(page, used)
+}
 
 // "table words, pool words (this line alone may be empty), start node, then one number a line"; "Anything
 // else prints only `unreadable`". All of it is read before anything is answered, on a page where nothing waits.

@@ -3,6 +3,7 @@
 --   place              where the next byte goes: to the front again once a full page is written out
 --   pageAfter, waiting what the page holds once a text is put on it, byte by byte, and how many bytes wait there then
 --   Puts               a text that is put on a page
+--   Waits              all of a text was put on a page on which nothing waited
 --   Spelled            a number's digits at the end of a scratch
 -- Assumes nothing.
 use mathlib.Core.Path.{_≡_}
@@ -30,6 +31,10 @@ waiting (b ∷ bs) used = waiting bs (place used + 1)
 pub record Puts (text old : List ℕ) (used : ℕ) (last : List ℕ) (r : ℕ) : Type 0 where
   pub page : last ≡ pageAfter text old used
   pub waits : r ≡ waiting text used
+
+pub record Waits (text page : List ℕ) (used : ℕ) : Type 0 where
+  pub old : List ℕ
+  pub puts : Puts text old 0 page used
 
 pub record Spelled (n : ℕ) (old last : List ℕ) (r : ℕ) : Type 0 where
   pub begins : r + length (decimal n) ≡ length old
