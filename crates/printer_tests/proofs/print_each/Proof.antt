@@ -10,10 +10,10 @@ use Rattle.printer_tests.proofs.print_each.Statement.{statement}
 use Rattle.printer_tests.proofs.print_each.Tie as tie
 
 abbrev Inv-loop : tie.InvT-loop
-Inv-loop text page₀ at₀ none short cut end page at = Unit {0}
+Inv-loop text at₀ none short cut end at = Unit {0}
 
 abbrev μ-loop : tie.MeasureT-loop
-μ-loop text page₀ at₀ none short cut end page at = length text - at
+μ-loop text at₀ none short cut end at = length text - at
 
 pub print-each-spec : {M : Type 1} → statement M
 print-each-spec =
@@ -41,11 +41,10 @@ print-each-spec =
     (λ c. search needs)
     (λ c. search needs)
     (λ c κs. search needs)
-    (λ c κs. search needs)
     (λ c. search needs)
     (λ c κs. search needs)
-    (λ c. let at-count = c .before .before .before .before .before .before .before .before .before .before in
-    let at-number-at = at-count .before .before in let at-loop = at-number-at .before .before in let at-args = at-loop .before .before in
-    omega (arith, number-within (at-args .args .text .now) (at-loop .loop .at) (sym (at-number-at .number-at .ensures) ∙ at-count .count .given .1)))
+    (λ c. let u = c .before .before .before .before .before .before .before in let v = u .before .before in let l = v .before .before in
+    let w = number-within (l .before .before .args .text .now) (l .loop .at) (sym (v .number-at .ensures) ∙ u .count .given .1) in
+    omega (arith, w))
     (λ c. tt)
     (λ c. search needs))
