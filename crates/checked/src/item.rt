@@ -48,7 +48,7 @@ fn case_at(pool: &[u64], plan: &[u64], start: usize, cells: &[u64], at: usize, w
     let few = room_for(left);
     let row = &cells[at..at + few];
     let mut used: usize = 0;
-    let word = take(&pool, &plan, start, &row, DEPTH, 0, &mut used);
+    let word = take(&pool, &plan, start, &row, DEPTH, &mut used, 0);
     if BIG < word {
         return Item::Not(why(word, MOST_CELLS <= left));
     }

@@ -40,7 +40,7 @@ fn cell_at(row: &[u64], at: usize, off: u64) -> Cell
 }
 
 // nats: any number
-pub fn any(row: &&[u64], off: u64, at: &mut usize) -> u64
+pub fn any(row: &&[u64], at: &mut usize, off: u64) -> u64
     requires { ⌜ (now at ≤ length (now (now row))) × (length (now (now row)) ≤ 65536) ⌝ }
     ensures { λ r. ⌜ TakenOwn (natsRule .tree) off (now (now (row .entry))) (now (at .entry)) (now (at .exit)) r ⌝ }
 {
@@ -69,7 +69,7 @@ fn passed(s: Place, at: &mut usize) -> u64
 }
 
 // below: a number below a count
-pub fn counted(a: u64, row: &&[u64], off: u64, at: &mut usize) -> u64
+pub fn counted(a: u64, row: &&[u64], at: &mut usize, off: u64) -> u64
     requires { ⌜ (a ≤ 2 ^ 62) × (now at ≤ length (now (now row))) × (length (now (now row)) ≤ 65536) ⌝ }
     ensures { λ r. ⌜ (r ≤ 2 ^ 63 → r < a) × TakenOwn (belowRule a .tree) off (now (now (row .entry))) (now (at .entry)) (now (at .exit)) r ⌝ }
 {
@@ -80,7 +80,7 @@ pub fn counted(a: u64, row: &&[u64], off: u64, at: &mut usize) -> u64
 }
 
 // pool: the place of a word
-pub fn listed(words: &&[u64], a: usize, b: usize, row: &&[u64], off: u64, at: &mut usize) -> u64
+pub fn listed(words: &&[u64], a: usize, b: usize, row: &&[u64], at: &mut usize, off: u64) -> u64
     requires { ⌜ (b ≤ 4096) × (a + b ≤ length (now (now words))) × (length (now (now words)) ≤ 4096) ⌝ }
     requires { ⌜ (now at ≤ length (now (now row))) × (length (now (now row)) ≤ 65536) ⌝ }
     ensures { λ r. ⌜ TakenOwn (poolRule (front b (drop a (now (now (words .entry))))) b .tree) off

@@ -32,20 +32,20 @@ fn tagged(
     b: usize,
     row: &&[u64],
     left: usize,
-    off: u64,
     at: &mut usize,
+    off: u64,
 ) -> u64
     requires { ⌜ Reading (now (now lent)) (now (now words)) a × Reading (now (now lent)) (now (now words)) b ⌝ }
     requires { ⌜ (left ≤ 200) × (now at ≤ length (now (now row))) × (length (now (now row)) ≤ 65536) ⌝ }
     ensures { λ r. ⌜ TakenBy orKind (now (now (lent .entry))) (now (now (words .entry))) a b left off
         (now (now (row .entry))) (now (at .entry)) (now (at .exit)) r ⌝ }
 {
-    let tag = counted(TAGS, row, off, at);
+    let tag = counted(TAGS, row, at, off);
     if TAGS <= tag {
         return tag;
     }
     let s = or::sides_of(tag, a, b);
-    let m = take(words, lent, s.part, row, left, 0, at);
+    let m = take(words, lent, s.part, row, left, at, 0);
     if BIG <= m {
         return m;
     }
@@ -60,19 +60,19 @@ fn both(
     b: usize,
     row: &&[u64],
     left: usize,
-    off: u64,
     at: &mut usize,
+    off: u64,
 ) -> u64
     requires { ⌜ Reading (now (now lent)) (now (now words)) a × Reading (now (now lent)) (now (now words)) b ⌝ }
     requires { ⌜ Roomy left off (now at) (now (now row)) ⌝ }
     ensures { λ r. ⌜ TakenBy consKind (now (now (lent .entry))) (now (now (words .entry))) a b left off
         (now (now (row .entry))) (now (at .entry)) (now (at .exit)) r ⌝ }
 {
-    let x = take(words, lent, a, row, left, off, at);
+    let x = take(words, lent, a, row, left, at, off);
     if BIG < x {
         return x;
     }
-    let y = take(words, lent, b, row, left, 0, at);
+    let y = take(words, lent, b, row, left, at, 0);
     if BIG <= y {
         return y;
     }
@@ -90,21 +90,21 @@ fn chosen(
     b: usize,
     row: &&[u64],
     left: usize,
-    off: u64,
     at: &mut usize,
+    off: u64,
 ) -> u64
     requires { ⌜ Choosing (now (now lent)) (now (now words)) a b ⌝ }
     requires { ⌜ Roomy left off (now at) (now (now row)) ⌝ }
     ensures { λ r. ⌜ TakenBy depKind (now (now (lent .entry))) (now (now (words .entry))) a b left off
         (now (now (row .entry))) (now (at .entry)) (now (at .exit)) r ⌝ }
 {
-    let x = take(words, lent, a, row, left, off, at);
+    let x = take(words, lent, a, row, left, at, off);
     if BIG <= x {
         return x;
     }
     let pool = *words;
     let c = pool[b + x as usize] as usize;
-    let y = take(words, lent, c, row, left, 0, at);
+    let y = take(words, lent, c, row, left, at, 0);
     if BIG <= y {
         return y;
     }
@@ -119,15 +119,15 @@ fn without(
     b: u64,
     row: &&[u64],
     left: usize,
-    off: u64,
     at: &mut usize,
+    off: u64,
 ) -> u64
     requires { ⌜ Reading (now (now lent)) (now (now words)) a × (b < 2 ^ 62) ⌝ }
     requires { ⌜ Roomy left off (now at) (now (now row)) ⌝ }
     ensures { λ r. ⌜ TakenBy exceptKind (now (now (lent .entry))) (now (now (words .entry))) a b left off
         (now (now (row .entry))) (now (at .entry)) (now (at .exit)) r ⌝ }
 {
-    let m = take(words, lent, a, row, left, off, at);
+    let m = take(words, lent, a, row, left, at, off);
     if BIG <= m {
         return m;
     }
@@ -138,15 +138,16 @@ fn without(
 }
 
 // "Reading walks the same nodes from cells": the walk calls itself on parts, and the depth left falls.
-// `off` is what the shifts above take off the first cell.
+// `off` is what the shifts above take off the first cell. It stands last, where no register is left for it:
+// only a visit that takes a cell looks at it.
 pub fn take(
     words: &&[u64],
     lent: &&[u64],
     i: usize,
     row: &&[u64],
     left: usize,
-    off: u64,
     at: &mut usize,
+    off: u64,
 ) -> u64
     requires { ⌜ Reading (now (now lent)) (now (now words)) i ⌝ }
     requires { ⌜ Roomy left off (now at) (now (now row)) ⌝ }
@@ -161,16 +162,16 @@ pub fn take(
     let a = plan[4 * i + 1] as usize;
     let b = plan[4 * i + 2];
     match kind {
-        kinds::BELOW => counted(a as u64, row, off, at),
-        kinds::NATS => any(row, off, at),
-        kinds::POOL => listed(words, a, b as usize, row, off, at),
-        kinds::SHIFT => take(words, lent, a, row, left - 1, off + b, at),
-        kinds::OR => tagged(words, lent, a, b as usize, row, left - 1, off, at),
-        kinds::CONS => both(words, lent, a, b as usize, row, left - 1, off, at),
-        kinds::DEP => chosen(words, lent, a, b as usize, row, left - 1, off, at),
-        kinds::EXCEPT => without(words, lent, a, b, row, left - 1, off, at),
-        kinds::FIX => take(words, lent, a, row, left - 1, off, at),
-        kinds::AGAIN => take(words, lent, a, row, left - 1, off, at),
+        kinds::BELOW => counted(a as u64, row, at, off),
+        kinds::NATS => any(row, at, off),
+        kinds::POOL => listed(words, a, b as usize, row, at, off),
+        kinds::SHIFT => take(words, lent, a, row, left - 1, at, off + b),
+        kinds::OR => tagged(words, lent, a, b as usize, row, left - 1, at, off),
+        kinds::CONS => both(words, lent, a, b as usize, row, left - 1, at, off),
+        kinds::DEP => chosen(words, lent, a, b as usize, row, left - 1, at, off),
+        kinds::EXCEPT => without(words, lent, a, b, row, left - 1, at, off),
+        kinds::FIX => take(words, lent, a, row, left - 1, at, off),
+        kinds::AGAIN => take(words, lent, a, row, left - 1, at, off),
         // Not reached: a checked plan has no other kind.
         _ => UNFIT,
     }

@@ -208,10 +208,10 @@ unfolding rules
       (at-pre .pre .1 .1 .2, at-pre .pre .1 .1 .3),
     ))
     (λ c. search needs)
-    (λ c. let at-pre = c .before .before .before .before .before .before in omega (
+    (λ c. let at-pre = c .before .before .before .before .before .before .before in omega (
       arith,
       at-pre .pre .1 .1 .1,
-      checked-by (at-pre .pre .1 .0) (c .match .keys4) shift-small,
+      checked-by (at-pre .pre .1 .0) (c .before .match .keys4) shift-small,
     ))
     (λ c κs. let at-if1 = c .before .before .before .before .before .before in let at-pre = at-if1 .before in visit-shift (at-pre .pre .0) (at-if1 .if1 .left)
     _ _ (at-pre .pre .1 .1) (checked-by (at-pre .pre .1 .0) (c .before .match .keys4) shift-small)
