@@ -40,7 +40,7 @@ fn why(word: u64, full: bool) -> Refusal
 
 // The case that starts at a place: "The limit of 65,536 counts from the item's first cell". "Then cells
 // left over (15, whole-case reading only), then 16."
-fn case_at(pool: &[u64], plan: &[u64], start: usize, cells: &[u64], at: usize, whole: bool) -> Item
+fn case_at<'a>(pool: &'a [u64], plan: &'a [u64], start: usize, cells: &[u64], at: usize, whole: bool) -> Item
     requires { ⌜ Reading (now plan) (now pool) start × (at ≤ length (now cells)) ⌝ }
     ensures { λ r. ⌜ Stood (standing whole (ruleIn (now (plan .entry)) (now (pool .entry))) start (drop at (now (cells .entry)))) (now (cells .entry)) at r ⌝ }
 {
@@ -48,7 +48,8 @@ fn case_at(pool: &[u64], plan: &[u64], start: usize, cells: &[u64], at: usize, w
     let few = room_for(left);
     let row = &cells[at..at + few];
     let mut used: usize = 0;
-    let word = take(&pool, &plan, start, &row, DEPTH, &mut used, 0);
+    let lent = [pool, plan];
+    let word = take(&lent, start, &row, DEPTH, 0, &mut used);
     if BIG < word {
         return Item::Not(why(word, MOST_CELLS <= left));
     }
@@ -65,7 +66,7 @@ fn case_at(pool: &[u64], plan: &[u64], start: usize, cells: &[u64], at: usize, w
 }
 
 // The case at a place, whatever stands behind it.
-pub fn item_at(pool: &[u64], plan: &[u64], start: usize, cells: &[u64], at: usize) -> Item
+pub fn item_at<'a>(pool: &'a [u64], plan: &'a [u64], start: usize, cells: &[u64], at: usize) -> Item
     requires { ⌜ Reading (now plan) (now pool) start × (at ≤ length (now cells)) ⌝ }
     ensures { λ r. ⌜ Stood (front (ruleIn (now (plan .entry)) (now (pool .entry))) start (drop at (now (cells .entry)))) (now (cells .entry)) at r ⌝ }
 {
@@ -73,7 +74,7 @@ pub fn item_at(pool: &[u64], plan: &[u64], start: usize, cells: &[u64], at: usiz
 }
 
 // All cells are one case.
-pub fn read_case(pool: &[u64], plan: &[u64], start: usize, cells: &[u64]) -> Item
+pub fn read_case<'a>(pool: &'a [u64], plan: &'a [u64], start: usize, cells: &[u64]) -> Item
     requires { ⌜ Reading (now plan) (now pool) start ⌝ }
     ensures { λ r. ⌜ Stood (whole (ruleIn (now (plan .entry)) (now (pool .entry))) start (now (cells .entry))) (now (cells .entry)) 0 r ⌝ }
 {

@@ -6,11 +6,19 @@ ghost use Rattle.grammar.specs.kinds.Below.{belowRule};
 ghost use Rattle.grammar.specs.kinds.Nats.{natsRule};
 ghost use Rattle.grammar.specs.kinds.Pool.{poolRule};
 ghost use Rattle.taking.specs.Took.{Celled, Passed, TakenOwn};
+ghost use Rattle.taking.specs.Lent.{poolOf};
 use grammar::kinds::Place;
 use grammar::kinds::below;
 use grammar::kinds::pool;
 use numbers::joined::cap;
 use numbers::joined::word;
+
+// What the walk is lent beside the cells, in one array that a visit hands on as one word: the pool, the plan.
+pub const LENT: usize = 2;
+
+pub const POOL: usize = 0;
+
+pub const PLAN: usize = 1;
 
 pub const DEEP: u64 = 9223372036854775809;
 
@@ -40,7 +48,7 @@ fn cell_at(row: &[u64], at: usize, off: u64) -> Cell
 }
 
 // nats: any number
-pub fn any(row: &&[u64], at: &mut usize, off: u64) -> u64
+pub fn any(row: &&[u64], off: u64, at: &mut usize) -> u64
     requires { ⌜ (now at ≤ length (now (now row))) × (length (now (now row)) ≤ 65536) ⌝ }
     ensures { λ r. ⌜ TakenOwn (natsRule .tree) off (now (now (row .entry))) (now (at .entry)) (now (at .exit)) r ⌝ }
 {
@@ -69,7 +77,7 @@ fn passed(s: Place, at: &mut usize) -> u64
 }
 
 // below: a number below a count
-pub fn counted(a: u64, row: &&[u64], at: &mut usize, off: u64) -> u64
+pub fn counted(a: u64, row: &&[u64], off: u64, at: &mut usize) -> u64
     requires { ⌜ (a ≤ 2 ^ 62) × (now at ≤ length (now (now row))) × (length (now (now row)) ≤ 65536) ⌝ }
     ensures { λ r. ⌜ (r ≤ 2 ^ 63 → r < a) × TakenOwn (belowRule a .tree) off (now (now (row .entry))) (now (at .entry)) (now (at .exit)) r ⌝ }
 {
@@ -80,14 +88,14 @@ pub fn counted(a: u64, row: &&[u64], at: &mut usize, off: u64) -> u64
 }
 
 // pool: the place of a word
-pub fn listed(words: &&[u64], a: usize, b: usize, row: &&[u64], at: &mut usize, off: u64) -> u64
-    requires { ⌜ (b ≤ 4096) × (a + b ≤ length (now (now words))) × (length (now (now words)) ≤ 4096) ⌝ }
+pub fn listed(lent: &[&[u64]; LENT], a: usize, b: usize, row: &&[u64], off: u64, at: &mut usize) -> u64
+    requires { ⌜ (b ≤ 4096) × (a + b ≤ length (poolOf (now lent))) × (length (poolOf (now lent)) ≤ 4096) ⌝ }
     requires { ⌜ (now at ≤ length (now (now row))) × (length (now (now row)) ≤ 65536) ⌝ }
-    ensures { λ r. ⌜ TakenOwn (poolRule (front b (drop a (now (now (words .entry))))) b .tree) off
+    ensures { λ r. ⌜ TakenOwn (poolRule (front b (drop a (poolOf (now (lent .entry))))) b .tree) off
         (now (now (row .entry))) (now (at .entry)) (now (at .exit)) r ⌝ }
 {
     match cell_at(*row, *at, off) {
-        Cell::Of(c) => passed(pool::place_of(*words, a, b, c), at),
+        Cell::Of(c) => passed(pool::place_of(lent[POOL], a, b, c), at),
         Cell::Stops(w) => w,
     }
 }

@@ -48,51 +48,51 @@ use Rattle.taking.proofs.own.listed.Reads as listed
 use Rattle.taking.proofs.take.+both+chosen+tagged+take+without.{statement}
 use Rattle.taking.proofs.take.+both+chosen+tagged+take+without.Tie.{close}
 
-abbrev μ-both : Measures 7 both-kinds.ps ℕ
-μ-both κs a = 2 * a .1 .1 .1 .1 .1 .0 + 1
+abbrev μ-both : Measures 5 both-kinds.ps ℕ
+μ-both κs a = 2 * a .1 .1 .1 .1 .0 + 1
 
-abbrev μ-chosen : Measures 7 chosen-kinds.ps ℕ
-μ-chosen κs a = 2 * a .1 .1 .1 .1 .1 .0 + 1
+abbrev μ-chosen : Measures 5 chosen-kinds.ps ℕ
+μ-chosen κs a = 2 * a .1 .1 .1 .1 .0 + 1
 
-abbrev μ-tagged : Measures 7 tagged-kinds.ps ℕ
-μ-tagged κs a = 2 * a .1 .1 .1 .1 .1 .0 + 1
+abbrev μ-tagged : Measures 5 tagged-kinds.ps ℕ
+μ-tagged κs a = 2 * a .1 .1 .1 .1 .0 + 1
 
-abbrev μ-take : Measures 7 take-kinds.ps ℕ
-μ-take κs a = 2 * a .1 .1 .1 .1 .0
+abbrev μ-take : Measures 5 take-kinds.ps ℕ
+μ-take κs a = 2 * a .1 .1 .1 .0
 
-abbrev μ-without : Measures 7 without-kinds.ps ℕ
-μ-without κs a = 2 * a .1 .1 .1 .1 .1 .0 + 1
+abbrev μ-without : Measures 5 without-kinds.ps ℕ
+μ-without κs a = 2 * a .1 .1 .1 .1 .0 + 1
 
 module _ (t : ℕ) where
-  abbrev both-at : In 7 both-kinds.ps
-  both-at = and 7 both-kinds.ps (is 7 both-kinds.ps μ-both t) both.Pre
+  abbrev both-at : In 5 both-kinds.ps
+  both-at = and 5 both-kinds.ps (is 5 both-kinds.ps μ-both t) both.Pre
 
-  abbrev both-below : In 7 both-kinds.ps
-  both-below = and 7 both-kinds.ps (falls 7 both-kinds.ps _<_ μ-both t) both.Pre
+  abbrev both-below : In 5 both-kinds.ps
+  both-below = and 5 both-kinds.ps (falls 5 both-kinds.ps _<_ μ-both t) both.Pre
 
-  abbrev chosen-at : In 7 chosen-kinds.ps
-  chosen-at = and 7 chosen-kinds.ps (is 7 chosen-kinds.ps μ-chosen t) chosen.Pre
+  abbrev chosen-at : In 5 chosen-kinds.ps
+  chosen-at = and 5 chosen-kinds.ps (is 5 chosen-kinds.ps μ-chosen t) chosen.Pre
 
-  abbrev chosen-below : In 7 chosen-kinds.ps
-  chosen-below = and 7 chosen-kinds.ps (falls 7 chosen-kinds.ps _<_ μ-chosen t) chosen.Pre
+  abbrev chosen-below : In 5 chosen-kinds.ps
+  chosen-below = and 5 chosen-kinds.ps (falls 5 chosen-kinds.ps _<_ μ-chosen t) chosen.Pre
 
-  abbrev tagged-at : In 7 tagged-kinds.ps
-  tagged-at = and 7 tagged-kinds.ps (is 7 tagged-kinds.ps μ-tagged t) tagged.Pre
+  abbrev tagged-at : In 5 tagged-kinds.ps
+  tagged-at = and 5 tagged-kinds.ps (is 5 tagged-kinds.ps μ-tagged t) tagged.Pre
 
-  abbrev tagged-below : In 7 tagged-kinds.ps
-  tagged-below = and 7 tagged-kinds.ps (falls 7 tagged-kinds.ps _<_ μ-tagged t) tagged.Pre
+  abbrev tagged-below : In 5 tagged-kinds.ps
+  tagged-below = and 5 tagged-kinds.ps (falls 5 tagged-kinds.ps _<_ μ-tagged t) tagged.Pre
 
-  abbrev take-at : In 7 take-kinds.ps
-  take-at = and 7 take-kinds.ps (is 7 take-kinds.ps μ-take t) take.Pre
+  abbrev take-at : In 5 take-kinds.ps
+  take-at = and 5 take-kinds.ps (is 5 take-kinds.ps μ-take t) take.Pre
 
-  abbrev take-below : In 7 take-kinds.ps
-  take-below = and 7 take-kinds.ps (falls 7 take-kinds.ps _<_ μ-take t) take.Pre
+  abbrev take-below : In 5 take-kinds.ps
+  take-below = and 5 take-kinds.ps (falls 5 take-kinds.ps _<_ μ-take t) take.Pre
 
-  abbrev without-at : In 7 without-kinds.ps
-  without-at = and 7 without-kinds.ps (is 7 without-kinds.ps μ-without t) without.Pre
+  abbrev without-at : In 5 without-kinds.ps
+  without-at = and 5 without-kinds.ps (is 5 without-kinds.ps μ-without t) without.Pre
 
-  abbrev without-below : In 7 without-kinds.ps
-  without-below = and 7 without-kinds.ps (falls 7 without-kinds.ps _<_ μ-without t) without.Pre
+  abbrev without-below : In 5 without-kinds.ps
+  without-below = and 5 without-kinds.ps (falls 5 without-kinds.ps _<_ μ-without t) without.Pre
 
   abbrev calls : take-lts.Claims
   calls = (
@@ -126,6 +126,7 @@ unfolding rules
     (at-take .take .ensures) (at-pre .pre .1 .0) (at-if1 .if1 .left) (c .before .take2 .ensures) (c .if2 .taken))
     (λ c. let at-take2 = c .before .before in let at-if1 = at-take2 .before .before in let at-take = at-if1 .before in let at-pre = at-take .before .before in
     cons-big _ _ _ _ _ _ (at-take .take .ensures) (at-pre .pre .1 .0) (at-if1 .if1 .left) (at-take2 .take2 .ensures) (c .before .if2 .left) (c .if3 .taken))
+    (λ c. search needs)
     (λ c κs. let at-pre = c .before .before .before .before .before .before .before .before in (
       reads-in (at-pre .pre .1 .0 .0),
       reads-in
@@ -138,6 +139,7 @@ unfolding rules
     (λ t. chosen-lts.spec (take-below t, take.Post, dep-join.Asked, dep-join.Learnt) (chosen-at t) chosen.Post
     (λ c κs. part-first (c .before .pre .0) _ _ (c .before .pre .1 .1) (c .before .pre .1 .0 .first))
     (λ c. let at-pre = c .before .before .before in dep-stops (at-pre .pre .1 .0) _ _ (c .before .take .ensures) (c .if1 .taken))
+    (λ c. search needs)
     (λ c. let at-take = c .before .before in let at-pre = at-take .before .before in let q = second-place (at-pre .pre .1 .0) _
     (dep-first (at-pre .pre .1 .0) _ _ (at-take .take .ensures) (omega (arith, c .before .if1 .left)) .1) in omega (arith, q .0, q .1))
     (λ c. let at-take = c .before .before in let at-pre = at-take .before .before in let q = second-place (at-pre .pre .1 .0) _
@@ -150,6 +152,7 @@ unfolding rules
     (λ c. let at-if1 = c .before .before .before .before .before in let at-take = at-if1 .before in let at-pre = at-take .before .before in dep-stays
     (at-pre .pre .1 .0) _ _ (at-take .take .ensures) (dep-first (at-pre .pre .1 .0) _ _ (at-take .take .ensures) (omega (arith, at-if1 .if1 .left)))
     (c .before .take2 .ensures) (c .if2 .taken))
+    (λ c. search needs)
     (λ c κs. let at-if1 = c .before .before .before .before .before .before in let at-take = at-if1 .before in let at-pre = at-take .before .before in
     (at-pre .pre .1 .0 .words, dep-first (at-pre .pre .1 .0) _ _ (at-take .take .ensures) (omega (arith, at-if1 .if1 .left)) .1))
     (λ c. let at-if2 = c .before .before in let at-take2 = at-if2 .before in let at-if1 = at-take2 .before .before .before .before in
@@ -169,6 +172,7 @@ unfolding rules
     let at-counted = at-if1 .before in
     or-stays _ _ _ _ _ _ (at-counted .counted .ensures .1) (omega (arith, at-if1 .if1 .left)) (at-sides-of .sides-of .ensures .0) (c .before .take .ensures)
     (c .if2 .taken))
+    (λ c. search needs)
     (λ c κs. let at-sides-of = c .before .before .before .before in let at-if1 = at-sides-of .before in
     let at-pre = at-if1 .before .before .before in (
       omega (arith, at-if1 .if1 .left),
@@ -182,6 +186,7 @@ unfolding rules
     (at-sides-of .sides-of .ensures .1) (c .join .ensures)))
     (λ t. take-lts.spec (calls t) (take-at t) take.Post
     (λ c. deep-taken _ _ _ (c .if1 .taken))
+    (λ c. search needs)
     (λ c. let at-pre = c .before .before in let q = in-plan (at-pre .pre .1 .0) in omega (arith, q .0, q .1))
     (λ c. let at-pre = c .before .before in let q = in-plan (at-pre .pre .1 .0) in omega (arith, q .0, q .1))
     (λ c. let at-pre = c .before .before .before in let q = in-plan (at-pre .pre .1 .0) in omega (arith, q .0, q .1))
@@ -208,10 +213,10 @@ unfolding rules
       (at-pre .pre .1 .1 .2, at-pre .pre .1 .1 .3),
     ))
     (λ c. search needs)
-    (λ c. let at-pre = c .before .before .before .before .before .before .before in omega (
+    (λ c. let at-pre = c .before .before .before .before .before .before in omega (
       arith,
       at-pre .pre .1 .1 .1,
-      checked-by (at-pre .pre .1 .0) (c .before .match .keys4) shift-small,
+      checked-by (at-pre .pre .1 .0) (c .match .keys4) shift-small,
     ))
     (λ c κs. let at-if1 = c .before .before .before .before .before .before in let at-pre = at-if1 .before in visit-shift (at-pre .pre .0) (at-if1 .if1 .left)
     _ _ (at-pre .pre .1 .1) (checked-by (at-pre .pre .1 .0) (c .before .match .keys4) shift-small)
