@@ -1,7 +1,8 @@
 -- The sizes of a row's parts: two of them, and the seconds of a dep in one pass.
 --   pair-row   the row of or and of cons
 --   Tally      what a pass over nodes cs shows of them: f of them are finite, with the sum s as far as it is measured
---   Passing    the pass over the first i words of a run
+--   not-lower  the row of seconds that are not all lower
+--   Passing    the pass over the first i words of a run, all of it lower nodes
 --   turn-..    a turn of it; end-.. the row that it ends in
 -- Assumes nothing.
 use mathlib.Core.Path.{_≡_, refl, sym, _∙_}
@@ -13,7 +14,7 @@ use native.Mathlib.Omega.{arith}
 use lib.ListN.{length, getD, take, drop, length-take, length-drop, length-append}
 use lib.Dec.{ltb, leb}
 use lib.Seq.{getD-drop, take-suc}
-use borrow.Author.Tests.{lt-ltb, le-leb, lt-leb, leb-false}
+use borrow.Author.Tests.{lt-ltb, le-leb, lt-leb, leb-false, not-true, not-false}
 use Rattle.numbers.specs.Size.{Size, finite, endless, plus, measured}
 use Rattle.numbers.specs.Pick.{pick}
 use Rattle.numbers.specs.declared.size.Measured.{Measured}
@@ -28,7 +29,7 @@ use Rattle.grammar.specs.declared.refusal.Refusal.the-variants.{Referenc
 use Rattle.grammar.specs.declared.kinds.Weighed.{Weighed}
 use Rattle.grammar.specs.declared.kinds.Weighed.the-variants.{Fault, Of as Weighs}
 use Rattle.numbers.proofs.Tests.{and-left}
-use Rattle.grammar.proofs.Runs.{wordAt, lower-not}
+use Rattle.grammar.proofs.Runs.{wordAt, lower-run}
 use Rattle.lists.proofs.Runs.{run-long}
 
 -- a size that is measured, and the last check of a row
@@ -93,18 +94,16 @@ module _ (s w : ℕ) where
   sum-past endless l e = let f : Of (2 ^ 63) ≡ Past = rw (lt-leb s (2 ^ 62) l) at e in let no : _≡_ {A = ℕ} 0 1 = cc in absurd (omega arith)
 
 -- ---- the pass over the seconds
-pub record Tally (z : ℕ → Size) (n : ℕ) (cs : List ℕ) (f s : ℕ) : Type 0 where
-  pub lower : allLower n cs ≡ true
+pub record Tally (z : ℕ → Size) (cs : List ℕ) (f s : ℕ) : Type 0 where
   pub most : f ≤ length cs
   pub all : f ≡ length cs → (allFinite z cs ≡ true) × (measured (total z cs) ≡ measured (finite s))
   pub not-all : f < length cs → allFinite z cs ≡ false
   pub none : f ≡ 0 → allEndless z cs ≡ true
   pub not-none : 0 < f → allEndless z cs ≡ false
 
-tally-none : {z : ℕ → Size} {n : ℕ} → Tally z n [] 0 0
+tally-none : {z : ℕ → Size} → Tally z [] 0 0
 unfolding every total
 tally-none = record {
-  lower = refl;
   most = omega arith;
   all = λ e. (refl, refl);
   not-all = λ l. absurd (omega arith);
@@ -112,17 +111,13 @@ tally-none = record {
   not-none = λ l. absurd (omega arith);
 }
 
-module _ {z : ℕ → Size} {n : ℕ} {cs : List ℕ} {f s : ℕ} (t : Tally z n cs f s) (c : ℕ) (l : c < n) where
+module _ {z : ℕ → Size} {cs : List ℕ} {f s : ℕ} (t : Tally z cs f s) (c : ℕ) where
   longer : length (cs ++ (c ∷ [])) ≡ length cs + 1
   longer = simp length-append
 
-  lower-more : allLower n (cs ++ (c ∷ [])) ≡ true
-  lower-more = rw (every-more (λ b. ltb b n) cs c, lt-ltb c n l) (t .lower)
-
   tally-finite : {w r : ℕ} → z c ≡ finite w → (measured (total z cs) ≡ measured (finite s) → measured (plus (finite w) (total z cs)) ≡ measured (finite r))
-      → Tally z n (cs ++ (c ∷ [])) (f + 1) r
+      → Tally z (cs ++ (c ∷ [])) (f + 1) r
   tally-finite e sum = record {
-    lower = lower-more;
     most = omega (arith, longer);
     all = λ k. let h = t .all (omega (arith, longer)) in (rw (every-more (λ b. not (isEndless (z b))) cs c, e) (h .0), rw (total-more z cs c, e) (sum (h .1)));
     not-all = λ k. rw (every-more (λ b. not (isEndless (z b))) cs c, e) (t .not-all (omega (arith, longer)));
@@ -130,9 +125,8 @@ module _ {z : ℕ → Size} {n : ℕ} {cs : List ℕ} {f s : ℕ} (t : Tally z n
     not-none = λ k. rw (every-more (λ b. isEndless (z b)) cs c, e);
   }
 
-  tally-endless : z c ≡ endless → Tally z n (cs ++ (c ∷ [])) f s
+  tally-endless : z c ≡ endless → Tally z (cs ++ (c ∷ [])) f s
   tally-endless e = record {
-    lower = lower-more;
     most = omega (arith, longer);
     all = λ k. absurd (omega (arith, longer));
     not-all = λ k. rw (every-more (λ b. not (isEndless (z b))) cs c, e);
@@ -149,75 +143,83 @@ endless-total z (c ∷ cs) e f = by (z c) (and-left (isEndless (z c)) (allEndles
     by (finite s) g = absurd (false≢true g)
     by endless g = refl
 
-module _ {z : ℕ → Size} {n : ℕ} {cs : List ℕ} {f s : ℕ} (t : Tally z n cs f s) where
+module _ (n : ℕ) {z : ℕ → Size} {cs : List ℕ} {f s : ℕ} (low : allLower n cs ≡ true) (t : Tally z cs f s) where
   tally-all : f ≡ length cs → weighedOf (measured (finite s)) ≡ coded (secondsRow n z cs)
   unfolding row
-  tally-all e = rw (← t .all e .1, t .lower, t .all e .0) (measured-row (total z cs))
+  tally-all e = rw (← t .all e .1, low, t .all e .0) (measured-row (total z cs))
 
   module _ (l : f < length cs) where
     tally-no-finite : f ≡ 0 → Weighs (2 ^ 63) ≡ coded (secondsRow n z cs)
     unfolding row coded
-    tally-no-finite e = rw (t .lower, t .not-all l, t .none e, endless-total z cs (t .none e) (t .not-all l))
+    tally-no-finite e = rw (low, t .not-all l, t .none e, endless-total z cs (t .none e) (t .not-all l))
 
     tally-mixed : 0 < f → Fault UnsuitedPart ≡ coded (secondsRow n z cs)
     unfolding row coded
-    tally-mixed k = rw (t .lower, t .not-all l, t .not-none k)
+    tally-mixed k = rw (low, t .not-all l, t .not-none k)
 
 -- ---- the same over a run of the pool, by the facts that the code has
+-- "each of those m words a lower node"
+pub not-lower : (n : ℕ) (z : ℕ → Size) (cs : List ℕ) {b : Bool} → b ≡ allLower n cs → not b ≡ true → Fault Reference ≡ coded (secondsRow n z cs)
+unfolding row coded
+not-lower n z cs {b} e f = rw (← e, not-true b f)
+
 pub record Passing (plan p : List ℕ) (n at count f s i : ℕ) : Type 0 where
   pub le : i ≤ count
-  pub is : Tally (before (sizeIn plan) n) n (take i (drop at p)) f s
+  pub in-p : at + count ≤ length p
+  pub lower : allLower n (take count (drop at p)) ≡ true
+  pub is : Tally (before (sizeIn plan) n) (take i (drop at p)) f s
 
-pub turn-none : {plan p : List ℕ} {n at count : ℕ} → Passing plan p n at count 0 0 0
-turn-none = record { le = omega arith; is = tally-none }
+pub turn-none : {plan p : List ℕ} {n at count : ℕ} {b : Bool} → at + count ≤ length p → b ≡ allLower n (take count (drop at p)) → not b ≡ false
+    → Passing plan p n at count 0 0 0
+turn-none {b} h e f = record { le = omega arith; in-p = h; lower = sym e ∙ not-false b f; is = tally-none }
 
-module _ {plan p : List ℕ} {n at count f s i : ℕ} (in-p : at + count ≤ length p) (r : Passing plan p n at count f s i) where
+module _ {plan p : List ℕ} {n at count f s i : ℕ} (r : Passing plan p n at count f s i) where
   pub turn-few : f ≤ i
   turn-few = omega (arith, r .is .most, length-take i (drop at p))
 
   module _ (l : i < count) where
-    -- "each of those m words a lower node"
-    pub turn-not-lower : n ≤ getD p (at + i) 0 → Fault Reference ≡ coded (secondsRow n (before (sizeIn plan) n) (take count (drop at p)))
-    unfolding row coded
-    turn-not-lower u = rw (← lower-not n p at count in-p i l u)
+    pub turn-lower : getD p (at + i) 0 < n
+    turn-lower = lower-run n p at count (r .in-p) (r .lower) i l
 
-    module _ (u : getD p (at + i) 0 < n) where
-      more : {g q : ℕ} → Tally (before (sizeIn plan) n) n (take i (drop at p) ++ (getD p (at + i) 0 ∷ [])) g q → Passing plan p n at count g q (i + 1)
-      more t =
-          let w : i < length (drop at p) = simp length-drop (omega arith) in
-          record { le = omega arith; is = rw (add-one, take-suc (drop at p) i 0 w, getD-drop at p i 0) t }
+    more : {g q : ℕ} → Tally (before (sizeIn plan) n) (take i (drop at p) ++ (getD p (at + i) 0 ∷ [])) g q → Passing plan p n at count g q (i + 1)
+    more t =
+        let w : i < length (drop at p) = simp length-drop (omega arith) in
+        record { le = omega arith; in-p = r .in-p; lower = r .lower; is = rw (add-one, take-suc (drop at p) i 0 w, getD-drop at p i 0) t }
 
-      pub turn-endless : 2 ^ 63 ≤ wordAt plan p at i → Passing plan p n at count f s (i + 1)
-      turn-endless h = more (tally-endless (r .is) _ u (rw (lt-ltb _ n u) (sized-endless (wordAt plan p at i) h)))
+    pub turn-endless : 2 ^ 63 ≤ wordAt plan p at i → Passing plan p n at count f s (i + 1)
+    turn-endless h = more (tally-endless (r .is) _ (rw (lt-ltb _ n turn-lower) (sized-endless (wordAt plan p at i) h)))
 
-      module _ (h : wordAt plan p at i < 2 ^ 63) where
-        pub turn-adds : s ≤ 2 ^ 62 → Passing plan p n at count (f + 1) (s + wordAt plan p at i) (i + 1)
-        turn-adds k = more (tally-finite (r .is) _ u (rw (lt-ltb _ n u) (sized-finite (wordAt plan p at i) h)) (sum-more s (wordAt plan p at i) _ k))
+    module _ (h : wordAt plan p at i < 2 ^ 63) where
+      sized : before (sizeIn plan) n (getD p (at + i) 0) ≡ finite (wordAt plan p at i)
+      sized = rw (lt-ltb _ n turn-lower) (sized-finite (wordAt plan p at i) h)
 
-        pub turn-past : 2 ^ 62 < s → Passing plan p n at count (f + 1) s (i + 1)
-        turn-past k = more (tally-finite (r .is) _ u (rw (lt-ltb _ n u) (sized-finite (wordAt plan p at i) h)) (sum-past s (wordAt plan p at i) _ k))
+      pub turn-adds : s ≤ 2 ^ 62 → Passing plan p n at count (f + 1) (s + wordAt plan p at i) (i + 1)
+      turn-adds k = more (tally-finite (r .is) _ sized (sum-more s (wordAt plan p at i) _ k))
+
+      pub turn-past : 2 ^ 62 < s → Passing plan p n at count (f + 1) s (i + 1)
+      turn-past k = more (tally-finite (r .is) _ sized (sum-past s (wordAt plan p at i) _ k))
 
   module _ (l : count ≤ i) where
-    whole : Tally (before (sizeIn plan) n) n (take count (drop at p)) f s
+    whole : Tally (before (sizeIn plan) n) (take count (drop at p)) f s
     whole = let e : i ≡ count = omega (arith, r .le) in rw e at (r .is)
 
     long : length (take count (drop at p)) ≡ count
-    long = run-long p at count in-p
+    long = run-long p at count (r .in-p)
 
     pub end-sum : f ≡ count → s ≤ 2 ^ 62 → Weighs s ≡ coded (secondsRow n (before (sizeIn plan) n) (take count (drop at p)))
     unfolding weighedOf measured
-    end-sum e h = rw (le-leb s (2 ^ 62) h) at (tally-all whole (e ∙ sym long))
+    end-sum e h = rw (le-leb s (2 ^ 62) h) at (tally-all n (r .lower) whole (e ∙ sym long))
 
     pub end-past : f ≡ count → 2 ^ 62 < s → Fault TooLarge ≡ coded (secondsRow n (before (sizeIn plan) n) (take count (drop at p)))
     unfolding weighedOf measured
-    end-past e h = rw (lt-leb s (2 ^ 62) h) at (tally-all whole (e ∙ sym long))
+    end-past e h = rw (lt-leb s (2 ^ 62) h) at (tally-all n (r .lower) whole (e ∙ sym long))
 
     module _ (k : f ≡ count → ⊥) where
       not-all : f < length (take count (drop at p))
       not-all = omega (arith, long, whole .most)
 
       pub end-endless : f ≡ 0 → Weighs (2 ^ 63) ≡ coded (secondsRow n (before (sizeIn plan) n) (take count (drop at p)))
-      end-endless e = tally-no-finite whole not-all e
+      end-endless e = tally-no-finite n (r .lower) whole not-all e
 
       pub end-mixed : (f ≡ 0 → ⊥) → Fault UnsuitedPart ≡ coded (secondsRow n (before (sizeIn plan) n) (take count (drop at p)))
-      end-mixed e = tally-mixed whole not-all (omega arith)
+      end-mixed e = tally-mixed n (r .lower) whole not-all (omega arith)

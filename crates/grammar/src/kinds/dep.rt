@@ -14,6 +14,7 @@ ghost use Rattle.grammar.specs.Rule.{part};
 ghost use Rattle.grammar.specs.kinds.Dep.{counts, secondsOf, secondsRow, dep};
 ghost use Rattle.grammar.specs.Seconds.{firsts, DepIn};
 ghost use Rattle.grammar.specs.Shown.{secondsSized, ShowsDep, NamesDep};
+use super::super::loops;
 use super::super::named::Named;
 use super::super::refusal::Refusal;
 use super::Two;
@@ -48,20 +49,20 @@ pub fn check(pool: &[u64], plan: &[u64], n: usize, a: usize, b: usize) -> Weighe
     seconds(pool, plan, n, b, m)
 }
 
-// The rest of a dep's row, in one pass over its seconds. "each of those m words a lower node" comes before "all finite or all endless",
-// so a second that is not lower refuses at once, and the sizes are judged after the last one.
+// The rest of a dep's row, in two passes over its seconds: "each of those m words a lower node" comes before "all finite or all endless",
+// and the pass over their sizes, judged after the last one, is shorter without that test.
 fn seconds(pool: &[u64], plan: &[u64], n: usize, at: usize, count: usize) -> Weighed
     requires { ⌜ (at + count ≤ length (now pool)) × (4 * n ≤ length (now plan)) ⌝ }
     ensures { λ r. ⌜ r ≡ coded (secondsRow n (before (sizeIn (now (plan .entry))) n) (take count (drop at (now (pool .entry))))) ⌝ }
 {
+    if !loops::all_lower(pool, n, at, count) {
+        return Weighed::Fault(Refusal::Reference);
+    }
     // How many are finite so far, and their sum.
     let mut finite = 0;
     let mut sum: u64 = 0;
     for i in 0..count {
         let k = pool[at + i] as usize;
-        if n <= k {
-            return Weighed::Fault(Refusal::Reference);
-        }
         let s = plan[4 * k + 3];
         if s < ENDLESS {
             finite += 1;

@@ -1,9 +1,9 @@
--- `grammar::kinds::dep::seconds` is the rest of a dep's row, in one pass over its seconds.
+-- `grammar::kinds::dep::seconds` is the rest of a dep's row, in two passes over its seconds.
 -- Assumes nothing.
 use mathlib.Core.Logic.{⊎-elim}
 use Prim.Native.Nat.{_-_}
 use native.Mathlib.Omega.{arith}
-use Rattle.grammar.proofs.Sums.{Passing, turn-none, turn-few, turn-not-lower, turn-endless, turn-adds, turn-past}
+use Rattle.grammar.proofs.Sums.{not-lower, Passing, turn-none, turn-few, turn-lower, turn-endless, turn-adds, turn-past}
 use Rattle.grammar.proofs.Sums.{end-sum, end-past, end-endless, end-mixed}
 use Rattle.grammar.proofs.kinds.dep.seconds.Statement.{statement}
 use Rattle.grammar.proofs.kinds.dep.seconds.Tie as tie
@@ -20,30 +20,25 @@ seconds-spec =
     (tie.spec
     Inv-loop
     μ-loop
-    (λ c. turn-none)
+    (λ c κs. omega arith)
+    (λ c. search not-lower)
+    (λ c. search turn-none)
     (λ c. omega arith)
     (λ c. omega arith)
     (λ c. omega arith)
-    (λ c. turn-not-lower (c .before .before .before .before .pre .0) (c .before .before .before .loop .inv) (c .before .before .loop-test .taken) (omega arith))
+    (λ c. omega (arith, turn-lower (c .before .before .loop .inv) (c .before .loop-test .taken)))
+    (λ c. omega (arith, turn-lower (c .before .before .loop .inv) (c .before .loop-test .taken)))
+    (λ c. omega (arith, turn-lower (c .before .before .loop .inv) (c .before .loop-test .taken)))
+    (λ c. omega (arith, turn-lower (c .before .before .before .loop .inv) (c .before .before .loop-test .taken)))
+    (λ c. omega (arith, turn-few (c .before .before .before .before .loop .inv)))
     (λ c. omega arith)
     (λ c. omega arith)
     (λ c. omega arith)
-    (λ c. omega arith)
-    (λ c. omega (arith, turn-few (c .before .before .before .before .before .before .pre .0) (c .before .before .before .before .before .loop .inv)))
-    (λ c. omega arith)
-    (λ c. omega arith)
-    (λ c. omega arith)
-    (λ c. let d = c .before .before .before .before in
-    let i = d .before .before .pre .0 in
-    ⊎-elim
-    (λ w. rw (w .2, w .3) (turn-adds i (d .before .loop .inv) (d .loop-test .taken) (omega arith) (omega arith) (omega arith)))
-    (⊎-elim
-    (λ w. rw (w .2, w .3) (turn-past i (d .before .loop .inv) (d .loop-test .taken) (omega arith) (omega arith) (omega arith)))
-    (λ w. rw (w .1, w .2) (turn-endless i (d .before .loop .inv) (d .loop-test .taken) (omega arith) (omega arith))))
+    (λ c. ⊎-elim
+    (λ w. rw (w .2, w .3) (search turn-adds))
+    (⊎-elim (λ w. rw (w .2, w .3) (search turn-past)) (λ w. rw (w .1, w .2) (search turn-endless)))
     (c .if2 .came))
-    (λ c. let d = c .before .before in
-    end-past (d .before .before .pre .0) (d .before .loop .inv) (d .loop-test .left) (c .before .if4 .taken) (omega arith))
-    (λ c. let d = c .before .before in
-    end-sum (d .before .before .pre .0) (d .before .loop .inv) (d .loop-test .left) (c .before .if4 .taken) (omega arith))
+    (λ c. search end-past)
+    (λ c. search end-sum)
     (λ c. search end-endless)
     (λ c. search end-mixed))
