@@ -40,7 +40,14 @@ fn why(word: u64, full: bool) -> Refusal
 
 // The case that starts at a place: "The limit of 65,536 counts from the item's first cell". "Then cells
 // left over (15, whole-case reading only), then 16."
-fn case_at<'a>(pool: &'a [u64], plan: &'a [u64], start: usize, cells: &[u64], at: usize, whole: bool) -> Item
+fn case_at<'a>(
+    pool: &'a [u64],
+    plan: &'a [u64],
+    start: usize,
+    cells: &[u64],
+    at: usize,
+    whole: bool,
+) -> Item
     requires { ⌜ Reading (now plan) (now pool) start × (at ≤ length (now cells)) ⌝ }
     ensures { λ r. ⌜ Stood (standing whole (ruleIn (now (plan .entry)) (now (pool .entry))) start (drop at (now (cells .entry)))) (now (cells .entry)) at r ⌝ }
 {

@@ -6,19 +6,14 @@ ghost use Rattle.grammar.specs.kinds.Below.{belowRule};
 ghost use Rattle.grammar.specs.kinds.Nats.{natsRule};
 ghost use Rattle.grammar.specs.kinds.Pool.{poolRule};
 ghost use Rattle.taking.specs.Took.{Celled, Passed, TakenOwn};
-ghost use Rattle.taking.specs.Lent.{poolOf};
+ghost use Rattle.walk.specs.Lent.{poolOf};
 use grammar::kinds::Place;
 use grammar::kinds::below;
 use grammar::kinds::pool;
 use numbers::joined::cap;
 use numbers::joined::word;
-
-// What the walk is lent beside the cells, in one array that a visit hands on as one word: the pool, the plan.
-pub const LENT: usize = 2;
-
-pub const POOL: usize = 0;
-
-pub const PLAN: usize = 1;
+use walk::lent::LENT;
+use walk::lent::POOL;
 
 pub const DEEP: u64 = 9223372036854775809;
 
@@ -88,7 +83,14 @@ pub fn counted(a: u64, row: &&[u64], off: u64, at: &mut usize) -> u64
 }
 
 // pool: the place of a word
-pub fn listed(lent: &[&[u64]; LENT], a: usize, b: usize, row: &&[u64], off: u64, at: &mut usize) -> u64
+pub fn listed(
+    lent: &[&[u64]; LENT],
+    a: usize,
+    b: usize,
+    row: &&[u64],
+    off: u64,
+    at: &mut usize,
+) -> u64
     requires { ⌜ (b ≤ 4096) × (a + b ≤ length (poolOf (now lent))) × (length (poolOf (now lent)) ≤ 4096) ⌝ }
     requires { ⌜ (now at ≤ length (now (now row))) × (length (now (now row)) ≤ 65536) ⌝ }
     ensures { λ r. ⌜ TakenOwn (poolRule (front b (drop a (poolOf (now (lent .entry))))) b .tree) off

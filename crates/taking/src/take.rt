@@ -9,11 +9,8 @@ ghost use Rattle.grammar.specs.kinds.Except.{except as exceptKind};
 ghost use Rattle.walk.specs.Run.{run};
 ghost use Rattle.walk.specs.Plan.{Reading, Choosing};
 ghost use Rattle.taking.specs.Took.{Taken, TakenBy, Roomy};
-ghost use Rattle.taking.specs.Lent.{poolOf, planOf};
+ghost use Rattle.walk.specs.Lent.{poolOf, planOf};
 use super::own::DEEP;
-use super::own::LENT;
-use super::own::PLAN;
-use super::own::POOL;
 use super::own::UNFIT;
 use super::own::any;
 use super::own::counted;
@@ -24,6 +21,9 @@ use grammar::kinds::dep;
 use grammar::kinds::except;
 use grammar::kinds::or;
 use numbers::joined::BIG;
+use walk::lent::LENT;
+use walk::lent::PLAN;
+use walk::lent::POOL;
 
 // An or's tags, 0 and 1.
 const TAGS: u64 = 2;

@@ -4,3 +4,4 @@ pub mod Run
 pub mod Room
 pub mod Laid
 pub mod Plan
+pub mod Lent

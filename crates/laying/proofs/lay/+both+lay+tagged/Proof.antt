@@ -36,33 +36,33 @@ use Rattle.laying.proofs.lay.put.Reads as put
 use Rattle.laying.proofs.lay.+both+lay+tagged.{statement}
 use Rattle.laying.proofs.lay.+both+lay+tagged.Tie.{close}
 
-abbrev μ-both : Measures 5 both-kinds.ps ℕ
-μ-both κs a = 2 * a .1 .1 .1 .0 + 1
+abbrev μ-both : Measures 3 both-kinds.ps ℕ
+μ-both κs a = 2 * a .1 .1 .0 + 1
 
-abbrev μ-lay : Measures 5 lay-kinds.ps ℕ
-μ-lay κs a = 2 * a .1 .1 .1 .1 .1 .0
+abbrev μ-lay : Measures 3 lay-kinds.ps ℕ
+μ-lay κs a = 2 * a .1 .1 .1 .1 .0
 
-abbrev μ-tagged : Measures 5 tagged-kinds.ps ℕ
-μ-tagged κs a = 2 * a .1 .1 .1 .0 + 1
+abbrev μ-tagged : Measures 3 tagged-kinds.ps ℕ
+μ-tagged κs a = 2 * a .1 .1 .0 + 1
 
 module _ (t : ℕ) where
-  abbrev both-at : In 5 both-kinds.ps
-  both-at = and 5 both-kinds.ps (is 5 both-kinds.ps μ-both t) both.Pre
+  abbrev both-at : In 3 both-kinds.ps
+  both-at = and 3 both-kinds.ps (is 3 both-kinds.ps μ-both t) both.Pre
 
-  abbrev both-below : In 5 both-kinds.ps
-  both-below = and 5 both-kinds.ps (falls 5 both-kinds.ps _<_ μ-both t) both.Pre
+  abbrev both-below : In 3 both-kinds.ps
+  both-below = and 3 both-kinds.ps (falls 3 both-kinds.ps _<_ μ-both t) both.Pre
 
-  abbrev tagged-at : In 5 tagged-kinds.ps
-  tagged-at = and 5 tagged-kinds.ps (is 5 tagged-kinds.ps μ-tagged t) tagged.Pre
+  abbrev tagged-at : In 3 tagged-kinds.ps
+  tagged-at = and 3 tagged-kinds.ps (is 3 tagged-kinds.ps μ-tagged t) tagged.Pre
 
-  abbrev tagged-below : In 5 tagged-kinds.ps
-  tagged-below = and 5 tagged-kinds.ps (falls 5 tagged-kinds.ps _<_ μ-tagged t) tagged.Pre
+  abbrev tagged-below : In 3 tagged-kinds.ps
+  tagged-below = and 3 tagged-kinds.ps (falls 3 tagged-kinds.ps _<_ μ-tagged t) tagged.Pre
 
-  abbrev lay-at : In 5 lay-kinds.ps
-  lay-at = and 5 lay-kinds.ps (is 5 lay-kinds.ps μ-lay t) lay.Pre
+  abbrev lay-at : In 3 lay-kinds.ps
+  lay-at = and 3 lay-kinds.ps (is 3 lay-kinds.ps μ-lay t) lay.Pre
 
-  abbrev lay-below : In 5 lay-kinds.ps
-  lay-below = and 5 lay-kinds.ps (falls 5 lay-kinds.ps _<_ μ-lay t) lay.Pre
+  abbrev lay-below : In 3 lay-kinds.ps
+  lay-below = and 3 lay-kinds.ps (falls 3 lay-kinds.ps _<_ μ-lay t) lay.Pre
 
   abbrev calls : lay-lts.Claims
   calls = (
@@ -137,6 +137,7 @@ unfolding rules
     (λ c. both-two t c))
     (λ t. lay-lts.spec (calls t) (lay-at t) lay.Post
     (λ c. laid-by (walk-deep _ _ _ _ (c .if1 .taken)) (laid-deep refl (tallied-deep _)))
+    (λ c. search needs)
     (λ c. let at-pre = c .before .before .before in let q = in-plan (visited (at-pre .pre .1 .0 .0)) in omega (arith, q .0, q .1))
     (λ c. let at-pre = c .before .before .before in let q = in-plan (visited (at-pre .pre .1 .0 .0)) in omega (arith, q .0, q .1))
     (λ c. let at-pre = c .before .before .before .before in let q = in-plan (visited (at-pre .pre .1 .0 .0)) in omega (arith, q .0, q .1))
@@ -152,6 +153,7 @@ unfolding rules
     (λ c κs. let at-pre = c .before .before .before .before .before .before .before .before in at-pre .pre .1 .1 .3)
     (λ c. let at-pre = c .before .before .before .before .before .before .before in omega (arith, at-pre .pre .1 .1 .0, at-pre .pre .1 .1 .1))
     (λ c κs. let at-pre = c .before .before .before .before .before .before .before .before in at-pre .pre .1 .1 .3)
+    (λ c. search needs)
     (λ c κs. let at-pre = c .before .before .before .before .before .before .before .before in let v = at-pre .pre .1 .0 .0 in
     let k = c .before .match .keys3 in (omega (arith, below-by v k, checked-by (visited v) k pool-in .1), v .walks .slight))
     (λ c κs. let at-pre = c .before .before .before .before .before .before .before .before .before .before in at-pre .pre .1 .1 .3)
@@ -176,6 +178,7 @@ unfolding rules
     (λ c κs. let at-match = c .before .before in let at-if1 = at-match .before .before .before .before .before in let at-pre = at-if1 .before .before in let
     v = at-pre .pre .1 .0 .0 in let n = next-by v (items-by v (at-match .match .keys6) (c .before .step3 .ensures)) in
     let near = at-pre .pre .1 .1 in to-both (at-pre .pre .0) (at-if1 .if1 .left) (near .0, near .2, near .3) (n .0) (n .1 .0))
+    (λ c. search needs)
     (λ c κs. let at-pre = c .before .before .before .before .before .before .before .before in let v = at-pre .pre .1 .0 .0 in
     ((choosing (visited v) (c .before .match .keys7) .words, v .walks .slight), dep-low v (c .before .match .keys7)))
     (λ c. search needs)

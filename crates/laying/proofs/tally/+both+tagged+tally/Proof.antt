@@ -31,33 +31,33 @@ use Rattle.laying.proofs.tally.one.Reads as one
 use Rattle.laying.proofs.tally.+both+tagged+tally.{statement}
 use Rattle.laying.proofs.tally.+both+tagged+tally.Tie.{close}
 
-abbrev μ-both : Measures 4 both-kinds.ps ℕ
-μ-both κs a = 2 * a .1 .1 .1 .0 + 1
+abbrev μ-both : Measures 2 both-kinds.ps ℕ
+μ-both κs a = 2 * a .1 .1 .0 + 1
 
-abbrev μ-tagged : Measures 4 tagged-kinds.ps ℕ
-μ-tagged κs a = 2 * a .1 .1 .1 .0 + 1
+abbrev μ-tagged : Measures 2 tagged-kinds.ps ℕ
+μ-tagged κs a = 2 * a .1 .1 .0 + 1
 
-abbrev μ-tally : Measures 4 tally-kinds.ps ℕ
-μ-tally κs a = 2 * a .1 .1 .1 .1 .0
+abbrev μ-tally : Measures 2 tally-kinds.ps ℕ
+μ-tally κs a = 2 * a .1 .1 .1 .0
 
 module _ (t : ℕ) where
-  abbrev both-at : In 4 both-kinds.ps
-  both-at = and 4 both-kinds.ps (is 4 both-kinds.ps μ-both t) both.Pre
+  abbrev both-at : In 2 both-kinds.ps
+  both-at = and 2 both-kinds.ps (is 2 both-kinds.ps μ-both t) both.Pre
 
-  abbrev both-below : In 4 both-kinds.ps
-  both-below = and 4 both-kinds.ps (falls 4 both-kinds.ps _<_ μ-both t) both.Pre
+  abbrev both-below : In 2 both-kinds.ps
+  both-below = and 2 both-kinds.ps (falls 2 both-kinds.ps _<_ μ-both t) both.Pre
 
-  abbrev tagged-at : In 4 tagged-kinds.ps
-  tagged-at = and 4 tagged-kinds.ps (is 4 tagged-kinds.ps μ-tagged t) tagged.Pre
+  abbrev tagged-at : In 2 tagged-kinds.ps
+  tagged-at = and 2 tagged-kinds.ps (is 2 tagged-kinds.ps μ-tagged t) tagged.Pre
 
-  abbrev tagged-below : In 4 tagged-kinds.ps
-  tagged-below = and 4 tagged-kinds.ps (falls 4 tagged-kinds.ps _<_ μ-tagged t) tagged.Pre
+  abbrev tagged-below : In 2 tagged-kinds.ps
+  tagged-below = and 2 tagged-kinds.ps (falls 2 tagged-kinds.ps _<_ μ-tagged t) tagged.Pre
 
-  abbrev tally-at : In 4 tally-kinds.ps
-  tally-at = and 4 tally-kinds.ps (is 4 tally-kinds.ps μ-tally t) tally.Pre
+  abbrev tally-at : In 2 tally-kinds.ps
+  tally-at = and 2 tally-kinds.ps (is 2 tally-kinds.ps μ-tally t) tally.Pre
 
-  abbrev tally-below : In 4 tally-kinds.ps
-  tally-below = and 4 tally-kinds.ps (falls 4 tally-kinds.ps _<_ μ-tally t) tally.Pre
+  abbrev tally-below : In 2 tally-kinds.ps
+  tally-below = and 2 tally-kinds.ps (falls 2 tally-kinds.ps _<_ μ-tally t) tally.Pre
 
   abbrev calls : tally-lts.Claims
   calls = (
@@ -95,6 +95,7 @@ unfolding rules
     (λ c. c .tally .ensures ∙ tallied-cell _ _ _ (c .before .if1 .left)))
     (λ t. tally-lts.spec (calls t) (tally-at t) tally.Post
     (λ c. tally-by _ (walk-deep _ _ _ _ (c .if1 .taken)) (tallied-deep _))
+    (λ c. search needs)
     (λ c. let at-pre = c .before .before in let q = in-plan (visited (at-pre .pre .1 .0)) in omega (arith, q .0, q .1))
     (λ c. let at-pre = c .before .before in let q = in-plan (visited (at-pre .pre .1 .0)) in omega (arith, q .0, q .1))
     (λ c. let at-pre = c .before .before .before in let q = in-plan (visited (at-pre .pre .1 .0)) in omega (arith, q .0, q .1))
@@ -123,6 +124,7 @@ unfolding rules
     (λ c κs. let at-if1 = c .before .before .before .before .before .before in let at-pre = at-if1 .before in let n = next-by (at-pre .pre .1 .0)
     (items-by (at-pre .pre .1 .0) (c .before .match .keys6) (c .step2 .ensures)) in
     to-both (at-pre .pre .0) (at-if1 .if1 .left) (at-pre .pre .1 .1) (n .0) (n .1 .0))
+    (λ c. search needs)
     (λ c κs. let at-pre = c .before .before .before .before .before .before .before in (
       (
         choosing (visited (at-pre .pre .1 .0))

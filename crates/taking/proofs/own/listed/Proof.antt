@@ -2,7 +2,7 @@
 -- Assumes nothing.
 use native.Mathlib.Omega.{arith}
 use borrow.Author.Needs.{needs}
-use Rattle.taking.specs.Lent.{poolOf}
+use Rattle.walk.specs.Lent.{poolOf}
 use Rattle.taking.proofs.Cells.{cell-in}
 use Rattle.taking.proofs.Leaves.{listed-placed, listed-stops}
 use Rattle.taking.proofs.own.listed.Statement.{statement}

@@ -1,4 +1,4 @@
--- What the reading walk is lent beside the cells, in one array.
+-- What a walk is lent beside its cells, in one array (`walk::lent` names the places).
 --   Lent             slices of words
 --   poolOf, planOf   the pool; the plan
 -- Assumes nothing.
