@@ -10,7 +10,13 @@ use laying::sure::sure;
 
 // The first pass decides and writes nothing; where every case of the start fits, there is nothing for it
 // to decide.
-pub fn write_case(pool: &[u64], plan: &[u64], start: usize, number: u64, cells: &mut [u64]) -> Fit
+pub fn write_case<'a>(
+    pool: &'a [u64],
+    plan: &'a [u64],
+    start: usize,
+    number: u64,
+    cells: &mut [u64],
+) -> Fit
     requires { ⌜ Reading (now plan) (now pool) start ⌝ }
     ensures { λ r. ⌜ Placed (ruleIn (now (plan .entry)) (now (pool .entry))) start number (now (cells .entry)) (now (cells .exit)) r ⌝ }
 {

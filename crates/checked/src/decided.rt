@@ -12,13 +12,14 @@ use grammar::refusal::Refusal;
 use laying::tally::tally;
 
 // "12, then the walk with the room left"
-pub fn decided(pool: &[u64], plan: &[u64], start: usize, number: u64, room: usize) -> Fit
+pub fn decided<'a>(pool: &'a [u64], plan: &'a [u64], start: usize, number: u64, room: usize) -> Fit
     requires { ⌜ Reading (now plan) (now pool) start ⌝ }
     ensures { λ r. ⌜ r ≡ fitted (ruleIn (now (plan .entry)) (now (pool .entry))) start number room ⌝ }
 {
     if asked(plan[4 * start + 3], number) {
         let most = room_for(room);
-        return fit_of(most, tally(&pool, &plan, start, number, DEPTH, most));
+        let lent = [pool, plan];
+        return fit_of(most, tally(&lent, start, number, DEPTH, most));
     }
     Fit::Not(Refusal::NoSuchNumber)
 }

@@ -55,13 +55,14 @@ pub fn fit_of(most: usize, rest: usize) -> Fit
 }
 
 // It decides as the first pass does by the buffer's length, and writes what fits.
-pub fn fits(pool: &[u64], plan: &[u64], start: usize, number: u64, out: &mut [u64]) -> Fit
+pub fn fits<'a>(pool: &'a [u64], plan: &'a [u64], start: usize, number: u64, out: &mut [u64]) -> Fit
     requires { ⌜ Reading (now plan) (now pool) start ⌝ }
     ensures { λ r. ⌜ FitOver (ruleIn (now (plan .entry)) (now (pool .entry))) start number (now (out .entry)) (now (out .exit)) r ⌝ }
 {
     if asked(plan[4 * start + 3], number) {
         let most = room_for(out.len());
-        let rest = lay(&pool, &plan, start, number, 0, DEPTH, &mut out[..most]);
+        let lent = [pool, plan];
+        let rest = lay(&lent, start, number, 0, DEPTH, &mut out[..most]);
         return fit_of(most, rest);
     }
     Fit::Not(Refusal::NoSuchNumber)

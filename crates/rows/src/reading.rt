@@ -33,9 +33,9 @@ fn keep(n: u64, items: usize, out: &mut [u64])
 
 // "the walk, then 16, then 14 if the buffer of numbers is full": decides by the room, and stores as many
 // of the numbers as the lent buffer holds.
-fn gather_row(
-    pool: &[u64],
-    plan: &[u64],
+fn gather_row<'a>(
+    pool: &'a [u64],
+    plan: &'a [u64],
     start: usize,
     cells: &[u64],
     room: usize,
@@ -66,9 +66,9 @@ fn gather_row(
 
 // The call on an opened table decides over a buffer of its own, and stores only once the whole row is
 // known to be readable: the numbers that it has kept, or else they are read again, over the buffer itself.
-fn read_items(
-    pool: &[u64],
-    plan: &[u64],
+fn read_items<'a>(
+    pool: &'a [u64],
+    plan: &'a [u64],
     start: usize,
     cells: &[u64],
     scratch: &mut [u64],

@@ -16,7 +16,13 @@ use grammar::refusal::Verdict;
 
 // "items in order; the first that is refused stops the call": the first pass decides, and is lent no cell
 // that it could write.
-fn decide_row(pool: &[u64], plan: &[u64], start: usize, numbers: &[u64], room: usize) -> Row
+fn decide_row<'a>(
+    pool: &'a [u64],
+    plan: &'a [u64],
+    start: usize,
+    numbers: &[u64],
+    room: usize,
+) -> Row
     requires { ⌜ Reading (now plan) (now pool) start ⌝ }
     ensures { λ r. ⌜ r ≡ inTurn (ruleIn (now (plan .entry)) (now (pool .entry))) start room (now (numbers .entry)) ⌝ }
 {
@@ -37,7 +43,13 @@ fn decide_row(pool: &[u64], plan: &[u64], start: usize, numbers: &[u64], room: u
 }
 
 // The second pass writes each case into what the ones before it leave of the buffer.
-fn lay_row(pool: &[u64], plan: &[u64], start: usize, numbers: &[u64], cells: &mut [u64]) -> Row
+fn lay_row<'a>(
+    pool: &'a [u64],
+    plan: &'a [u64],
+    start: usize,
+    numbers: &[u64],
+    cells: &mut [u64],
+) -> Row
     requires { ⌜ Reading (now plan) (now pool) start ⌝ }
     ensures { λ r. ⌜ RowOver (ruleIn (now (plan .entry)) (now (pool .entry))) start (now (numbers .entry)) (now (cells .entry)) (now (cells .exit)) r ⌝ }
 {

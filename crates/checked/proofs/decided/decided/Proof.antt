@@ -18,7 +18,7 @@ decided-spec =
     (λ c. let at-pre = c .before .before .before in let q = in-plan (at-pre .pre) in omega arith)
     (λ c κs. search needs)
     (λ c κs. search needs)
-    (λ c κs. let at-room = c .before .before in let at-if1 = at-room .before in let at-pre = at-if1 .before .before .before .before .before in
+    (λ c κs. let at-room = c .before in let at-if1 = at-room .before in let at-pre = at-if1 .before .before .before .before .before in
     let h = at-pre .pre in let a = at-if1 .before .asked .ensures in let y = at-if1 .if1 .taken in
     (visits-of h _ a y, (omega (arith, may h _ a y .small), omega arith, omega (arith, at-room .room-for .ensures))))
     (λ c κs. left-within _ (c .tally .ensures))

@@ -20,11 +20,11 @@ fits-spec =
     (λ c κs. search needs)
     (λ c. search needs)
     (λ c. search (lent-long))
-    (λ c κs. let at-room = c .before .before .before in let at-if1 = at-room .before in let at-args = at-if1 .before .before .before .before .before .before in
+    (λ c κs. let at-room = c .before .before in let at-if1 = at-room .before in let at-args = at-if1 .before .before .before .before .before .before in
     let h = at-args .pre in let a = at-if1 .before .asked .ensures in let y = at-if1 .if1 .taken in
     let long = lent-long (at-args .args .out .now) (at-room .room-for .ensures) in
     ((visits-of h _ a y, raised-zero _ _), (omega (arith, may h _ a y .small), omega arith, omega arith, omega (arith, at-room .room-for .ensures))))
-    (λ c κs. λ l. let at-room = c .before .before .before .before .before .before in
+    (λ c κs. λ l. let at-room = c .before .before .before .before .before in
     let at-args = at-room .before .before .before .before .before .before .before in
     omega (arith, left-within _ (c .before .before .lay .ensures .is) l, lent-long (at-args .args .out .now) (at-room .room-for .ensures)))
     (λ c. search (fits-long))

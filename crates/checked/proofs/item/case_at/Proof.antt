@@ -20,7 +20,7 @@ case-at-spec =
     (λ c κs. search needs)
     (λ c κs. search needs)
     (λ c. search (stood-why))
-    (λ c. let at-room-for = c .before .before .before .before .before in let at-pre = at-room-for .before .before .before .before in
+    (λ c. let at-room-for = c .before .before .before .before .before .before in let at-pre = at-room-for .before .before .before .before in
     omega (arith, within _ _ (at-room-for .room-for .ensures) (at-pre .pre) (c .before .take .ensures) (c .if1 .left)))
     (λ c. rw (c .before .if2 .taken) (search (stood-over)))
     (λ c. let none = either (c .before .if2 .came) (λ w. w .1 .left) (λ w. w .left) in search (stood-number))
