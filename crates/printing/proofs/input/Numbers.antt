@@ -86,6 +86,3 @@ module _ {text : List ℕ} {from at : ℕ} (s : Passing text from at) where
 
     pub pass-more : {n next : ℕ} → o ≡ Number n next → Passing text from next
     pass-more {n} {next} q = record { is = s .is ∙ ap readable (numbers-more text at l (sym e ∙ q)) ∙ readable-map n (numbersFrom text next) }
-
-    pub pass-less : {n next : ℕ} → o ≡ Number n next → (at < next) × (next ≤ length text)
-    pass-less q = one-within text at (sym e ∙ q)

@@ -75,16 +75,13 @@ go-none = record { gone = λ ns e. record { said = []; rest = ns; here = e; is =
 
 module _ {text : List ℕ} {from : ℕ} {t p : List ℕ} {i : ℕ} {old now : List ℕ} {used at : ℕ} (s : Going text from t p i old now used at) {o : One}
     (e : o ≡ oneAt text at) where
-  pub go-further : {n next : ℕ} → o ≡ Number n next → (at < next) × (next ≤ length text)
-  go-further q = one-within text at (sym e ∙ q)
-
   pub go-more : {n next : ℕ} → o ≡ Number n next → {last : List ℕ} {r : ℕ} → Puts (caseLine t p i n) now used last r → Going text from t p i old last r next
   unfolding casesOf
   go-more {n} {next} q {last} {r} g = record { gone = λ ns f. more (s .gone ns f) }
     where
       more : {ns : List ℕ} → Gone text t p i ns old now used at → Gone text t p i ns old last r next
       more x =
-          let w = go-further q in
+          let w = one-within text at (sym e ∙ q) in
           let y = rest-of n (x .rest) (numbersFrom text next) (sym (numbers-more text at (omega arith) (sym e ∙ q)) ∙ x .here) in
           record {
             said = x .said ++ caseLine t p i n;

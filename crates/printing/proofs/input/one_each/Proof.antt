@@ -1,10 +1,11 @@
 -- `printing::input::one_each` passes line by line.
 -- Assumes nothing.
+use mathlib.Core.Path.{sym, _∙_}
 use borrow.Author.Needs.{needs}
 use Prim.Native.Nat.{_-_}
 use native.Mathlib.Omega.{arith}
 use lib.ListN.{length}
-use Rattle.printing.proofs.input.Numbers.{Passing, pass-start, pass-more, pass-less, pass-not, pass-end}
+use Rattle.printing.proofs.input.Numbers.{Passing, one-within, pass-start, pass-more, pass-not, pass-end}
 use Rattle.printing.proofs.input.one_each.Statement.{statement}
 use Rattle.printing.proofs.input.one_each.Tie as tie
 
@@ -25,8 +26,7 @@ one-each-spec =
     (λ c. search needs)
     (λ c. omega (
       arith,
-      pass-less (c .before .before .before .before .before .loop .inv) (c .before .before .before .before .loop-test .taken)
-          (c .before .before .before .one-at .ensures) (c .before .next .given .1),
+      one-within _ _ (sym (c .before .before .before .one-at .ensures) ∙ c .before .next .given .1),
     ))
     (λ c. pass-more (c .before .before .before .before .before .loop .inv) (c .before .before .before .before .loop-test .taken)
     (c .before .before .before .one-at .ensures) (c .before .next .given .1))
