@@ -1,4 +1,4 @@
-// A plain C twin of the public calls, written from documents 01 and 02 for speed, and the workloads of crates/bench over it.
+// A plain C twin of the public calls, written from document 01 for speed, and the workloads of crates/bench over it.
 // The kit has no headers: what is called of the C library is declared here. To see what each costs: -DCLEAR clears 8 KiB a check,
 // -DTWO_PASSES always writes in two passes, -DHASH finds repeated words of a pool by hashing.
 typedef unsigned long u64;
@@ -18,26 +18,22 @@ extern void *memset(void *, int, u64);
 #define MOST_NODES 256
 #define MOST_WORDS 4096
 #define MOST_CELLS 65536
-#define FEWEST_PARTS 3 // of a tuple or a union
-#define MOST_PARTS 8
 #define DEPTH 200
 #define ALONE static __attribute__((noinline))
-#define INSIDE static inline __attribute__((always_inline))
 #define likely(x) __builtin_expect(!!(x), 1)
 #define unlikely(x) __builtin_expect(!!(x), 0)
 
-enum kind { BELOW, NATS, POOL, SHIFT, OR, CONS, DEP, EXCEPT, FIX, AGAIN, TUPLE, UNION };
+enum kind { BELOW, NATS, POOL, SHIFT, OR, CONS, DEP, EXCEPT, FIX, AGAIN };
 
 // What a visit does, decided once a check.
 enum does {
     D_BELOW, D_NATS, D_POOL, D_SHIFT, D_PASS, D_EXCEPT,
     D_OR_FIRST, D_OR_SECOND, // the part that is used up first
-    D_TUPLE, D_UNION,
     D_SQUARE, D_MOD_FIRST, D_MOD_SECOND, D_BITS_FIRST, D_BITS_SECOND,
     D_DEP_FINITE, D_DEP_ENDLESS
 };
 
-// word: a below's count, a pool's count, a count of parts, a shift's k, the removed number, or the size that a number is divided by.
+// word: a below's count, a pool's count, a shift's k, the removed number, or the size that a number is divided by.
 struct node {
     u64 size, word;
     u32 does, first, second, depth;
@@ -89,16 +85,13 @@ static int meets(struct search *s, u64 n) {
 #define TO(x) do { u64 x_ = (x); \
         if (s->goal == MOST_NODES ? s->mark[x_] == 1 : x_ == s->goal) return 1; \
         if (!s->mark[x_] && meets(s, x_)) return 1; } while (0)
-    if (t[0] >= SHIFT && t[0] < TUPLE) {
+    if (t[0] >= SHIFT) {
         TO(t[1]);
         if (t[0] == CONS || (t[0] == OR && s->guarded)) TO(t[2]);
         if (t[0] == DEP) {
             u64 m = s->plan[t[1]].size;
             for (u64 i = 0; i < m; i++) TO(s->pool[t[2] + i]);
         }
-    } else if (t[0] >= TUPLE) {
-        u64 m = t[0] == TUPLE || s->guarded ? t[2] : 1;
-        for (u64 i = 0; i < m; i++) TO(s->pool[t[1] + i]);
     }
     s->mark[n] = 2;
     return 0;
@@ -133,8 +126,6 @@ static u64 cycles(const u64 *table, const u64 *pool, const struct node *plan, u6
 }
 
 static int power(u64 x) { return (x & (x - 1)) == 0; }
-
-static u64 least(u64 a, u64 b) { return a < b ? a : b; }
 
 ALONE u64 prepare(const u64 *table, u64 words, const u64 *pool, u64 pool_words, struct node *plan, u64 *at) {
 #ifdef CLEAR
@@ -239,18 +230,6 @@ ALONE u64 prepare(const u64 *table, u64 words, const u64 *pool, u64 pool_words, 
             p->does = D_PASS, p->first = a, p->size = ENDLESS;
             has_again = 1;
             break;
-        case TUPLE: case UNION: {
-            if (b < FEWEST_PARTS || b > MOST_PARTS || b > pool_words || a > pool_words - b) return 5;
-            u64 all = ENDLESS;
-            for (u64 i = 0; i < b; i++) {
-                u64 x = pool[a + i];
-                if (x >= n) return 4;
-                all &= plan[x].size;
-            }
-            if (!all) return 7;
-            p->does = kind == TUPLE ? D_TUPLE : D_UNION, p->first = a, p->word = b, p->size = ENDLESS;
-            break;
-        }
         default:
             return 2;
         }
@@ -267,74 +246,6 @@ static u64 root_of(u64 n) {
     if (r * r > n) r--;
     else if (n - r * r > 2 * r) r++;
     return r;
-}
-
-// About the t-th root. The bits of a double, read as a number, are near its logarithm: the guess is at most 4 in 100 off. Halley's
-// step leaves about t * t / 12 of the cube of an error: from five parts on roots are small, and one step is less than one off.
-INSIDE u64 near_root(u64 n, u64 t) {
-    const u64 bit = 1ul << 52, one = 1023 * bit;
-    double x = (double)(long)n, y;
-    u64 bits;
-    if (t == 4) return (u64)(long)__builtin_sqrt(__builtin_sqrt(x));
-    memcpy(&bits, &x, 8);
-    bits = bits / t + (one - one / t - bit / 26); // bit / 26 evens the guess out, at any count
-    memcpy(&y, &bits, 8);
-    for (int steps = t < 5 ? 2 : 1; steps; steps--) {
-        double raised = 1, square = y;
-        for (u64 k = t; k; k /= 2, square *= square)
-            if (k & 1) raised *= square;
-        y *= ((t - 1) * raised + (t + 1) * x) / ((t + 1) * raised + (t - 1) * x);
-    }
-    return (u64)(long)y;
-}
-
-// The part numbers of tuple n; t is known where this is used, so that no loop is left. r is the largest of them, d how many
-// tuples with this largest come before n, and w how many of these go with each lower number at a place.
-INSIDE void tuple_of(u64 t, u64 n, u64 *x) {
-    if (n >> t == 0) { // no part is above 1
-        for (u64 k = 0; k < t; k++) x[k] = n >> (t - 1 - k) & 1;
-        return;
-    }
-    u64 r = near_root(n, t), low[MOST_PARTS + 1], high[MOST_PARTS + 1]; // powers of r and of r + 1
-    for (;;) {
-        low[0] = high[0] = 1;
-        for (u64 m = 1; m <= t; m++) low[m] = low[m - 1] * r, high[m] = high[m - 1] * (r + 1);
-        if (unlikely(low[t] > n)) r--;
-        else if (unlikely(high[t] <= n)) r++;
-        else break;
-    }
-    // no branches: at which place r is met first no processor foresees
-    u64 d = n - low[t], met = 0;
-    for (u64 k = 0; k < t - 1; k++) {
-        u64 m = t - 1 - k, w = high[m] - (met ? 0 : low[m]);
-        x[k] = least(d / w, r);
-        d -= x[k] * w;
-        met |= x[k] == r;
-    }
-    x[t - 1] = met ? d : r;
-}
-
-ALONE void split_tuple(u64 count, u64 n, u64 *x) {
-    switch (count) {
-    case 3: tuple_of(3, n, x); break;
-    case 4: tuple_of(4, n, x); break;
-    case 5: tuple_of(5, n, x); break;
-    case 6: tuple_of(6, n, x); break;
-    case 7: tuple_of(7, n, x); break;
-    default: tuple_of(8, n, x);
-    }
-}
-
-// A number divided by a union's count: by a known count it is a multiplication.
-static u64 by_count(u64 n, u64 count) {
-    switch (count) {
-    case 3: return n / 3;
-    case 4: return n / 4;
-    case 5: return n / 5;
-    case 6: return n / 6;
-    case 7: return n / 7;
-    default: return n / 8;
-    }
 }
 
 // The most cells and visits of a node's cases; recursion has no bound.
@@ -357,18 +268,6 @@ static void bound(struct node *plan, const u64 *pool, u64 start) {
             p->cells = 1 + (f->cells > s->cells ? f->cells : s->cells);
             p->depth = 1 + (f->depth > s->depth ? f->depth : s->depth);
             break;
-        case D_TUPLE: case D_UNION: {
-            u64 all = 0, most = 0;
-            u32 depth = 0;
-            for (u64 i = 0; i < p->word; i++) {
-                s = plan + pool[p->first + i];
-                all += s->cells;
-                if (s->cells > most) most = s->cells;
-                if (s->depth > depth) depth = s->depth;
-            }
-            p->cells = p->does == D_TUPLE ? all : 1 + most, p->depth = depth + 1;
-            break;
-        }
         case D_DEP_FINITE: case D_DEP_ENDLESS: {
             u64 cells = 0;
             u32 depth = f->depth;
@@ -407,18 +306,6 @@ static void bound(struct node *plan, const u64 *pool, u64 start) {
     if (n / 2 < p->word) { tag = n & 1, n /= 2; } \
     else { tag = p->does == D_OR_FIRST, n -= p->word; }
 
-#define UNION_PART(p, n, tag) do { u64 part_ = by_count(n, p->word); tag = n - part_ * p->word, n = part_; } while (0)
-
-static u64 *fill(const struct node *plan, const u64 *pool, u64 i, u64 n, u64 *out);
-
-// The numbers of a tuple's parts stand in a frame of their own: no other visit pays for them.
-ALONE u64 *fill_tuple(const struct node *plan, const u64 *pool, const struct node *p, u64 n, u64 *out) {
-    u64 x[MOST_PARTS];
-    split_tuple(p->word, n, x);
-    for (u64 k = 0; k < p->word; k++) out = fill(plan, pool, pool[p->first + k], x[k], out);
-    return out;
-}
-
 // Where the bounds say that the case has room: no tests.
 static u64 *fill(const struct node *plan, const u64 *pool, u64 i, u64 n, u64 *out) {
     u64 add = 0;
@@ -436,12 +323,6 @@ static u64 *fill(const struct node *plan, const u64 *pool, u64 i, u64 n, u64 *ou
             *out++ = tag;
             i = tag ? p->second : p->first;
             continue;
-        case D_UNION:
-            UNION_PART(p, n, tag);
-            *out++ = tag;
-            i = pool[p->first + tag];
-            continue;
-        case D_TUPLE: return fill_tuple(plan, pool, p, n, out);
         SPLIT(p, n, x, y, q)
         }
         out = fill(plan, pool, p->first, x, out);
@@ -466,15 +347,6 @@ static u64 put(struct out *o, u64 cell) {
     return 0;
 }
 
-static u64 tried(struct out *o, u64 i, u64 n, u64 left);
-
-ALONE u64 tried_tuple(struct out *o, const struct node *p, u64 n, u64 left) {
-    u64 x[MOST_PARTS], r = 0;
-    split_tuple(p->word, n, x);
-    for (u64 k = 0; k < p->word && !r; k++) r = tried(o, o->pool[p->first + k], x[k], left);
-    return r;
-}
-
 // 0, 13 or 14.
 static u64 tried(struct out *o, u64 i, u64 n, u64 left) {
     const struct node *plan = o->plan;
@@ -497,13 +369,6 @@ static u64 tried(struct out *o, u64 i, u64 n, u64 left) {
             if (unlikely(r)) return r;
             i = tag ? p->second : p->first;
             continue;
-        case D_UNION:
-            UNION_PART(p, n, tag);
-            r = put(o, tag);
-            if (unlikely(r)) return r;
-            i = pool[p->first + tag];
-            continue;
-        case D_TUPLE: return tried_tuple(o, p, n, left);
         SPLIT(p, n, x, y, q)
         }
         r = tried(o, p->first, x, left);
@@ -523,6 +388,8 @@ static u64 prepare_at(const u64 *table, u64 words, const u64 *pool, u64 pool_wor
     u64 r = prepare(table, words, pool, pool_words, plan, at);
     return r ? r : words / 3 <= start ? 11 : 0;
 }
+
+static u64 least(u64 a, u64 b) { return a < b ? a : b; }
 
 ALONE struct answer row_write(const u64 *table, u64 words, const u64 *pool, u64 pool_words, u64 start,
                               const u64 *numbers, u64 items, u64 *cells, u64 room) {
@@ -598,28 +465,6 @@ static u64 times_plus(u64 q, u64 m, u64 rest) {
     return capped(n);
 }
 
-static u64 take(struct in *r, u64 i, u64 left);
-
-// A tuple's number is how many come before it: of those with no part above its largest the ones before it in the dictionary
-// (all), and of those with lower parts only the ones after it there (lower).
-ALONE u64 take_tuple(struct in *r, const struct node *p, u64 left) {
-    static const u64 most[] = {0, 0, 0, 1664510, 46340, 5404, 1290, 463, 215}; // by count: the largest part of a number below LIMIT
-    u64 x[MOST_PARTS], t = p->word, largest = 0;
-    for (u64 k = 0; k < t; k++) {
-        x[k] = take(r, r->pool[p->first + k], left);
-        if (unlikely(x[k] == WRONG)) return WRONG;
-        if (x[k] > largest) largest = x[k];
-    }
-    if (unlikely(largest > most[t])) return BIG;
-    u64 all = 0, lower = 1, met = 0;
-    for (u64 k = 0; k < t; k++) {
-        all = all * (largest + 1) + x[k];
-        lower = lower * largest - (met ? 0 : x[k]);
-        met |= x[k] == largest;
-    }
-    return capped(all + lower);
-}
-
 static u64 take(struct in *r, u64 i, u64 left) {
     const struct node *p;
     u64 off = 0, c, x, y;
@@ -665,14 +510,6 @@ static u64 take(struct in *r, u64 i, u64 left) {
         u64 other = r->plan[c ? p->first : p->second].size;
         return x < other ? capped(2 * x + c) : capped(x + other);
     }
-    case D_UNION:
-        if (unlikely(r->at == r->end)) return wrong(r, r->over);
-        c = *r->at++;
-        if (unlikely(c >= p->word)) return wrong(r, 15);
-        x = take(r, r->pool[p->first + c], left);
-        if (unlikely(x >= WRONG)) return x;
-        return times_plus(x, p->word, c);
-    case D_TUPLE: return take_tuple(r, p, left);
     }
     x = take(r, p->first, left);
     if (unlikely(x == WRONG)) return WRONG;
@@ -811,20 +648,6 @@ static void wide(void) {
     endless(19, 18);
 }
 
-static void of_nats(u64 kind, u64 count) {
-    node(0, NATS, 0, 0), node(1, kind, 0, count);
-    for (u64 i = 0; i < count; i++) pool[i] = 0;
-    endless(2, 1), pool_words = count;
-}
-
-// A number, an operation on one term, or an operation on two.
-static void terms(void) {
-    node(0, NATS, 0, 0), node(1, AGAIN, 5, 0), node(2, CONS, 0, 1), node(3, TUPLE, 0, 3);
-    node(4, UNION, 3, 3), node(5, FIX, 4, 0);
-    pool[0] = 0, pool[1] = 1, pool[2] = 1, pool[3] = 0, pool[4] = 2, pool[5] = 3;
-    endless(6, 5), pool_words = 6;
-}
-
 static void laid_out(u64 number) {
     switch (number) {
     case 1: pairs(6); break;
@@ -861,11 +684,6 @@ static void laid_out(u64 number) {
     case 17: pairs(10), limit = 1; break;
     case 18: pairs(13), limit = 1; break;
     case 19: wide(), limit = 1; break;
-    // tuples and unions
-    case 20: of_nats(TUPLE, 3); break;
-    case 21: of_nats(TUPLE, 8); break;
-    case 22: terms(); break;
-    case 23: of_nats(UNION, 3); break;
     default:
         node(0, BELOW, 1, 0), node(1, NATS, 0, 0), node(2, AGAIN, 5, 0), node(3, CONS, 1, 2);
         node(4, OR, 0, 3), node(5, FIX, 4, 0);

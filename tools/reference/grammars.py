@@ -5,20 +5,16 @@ accepted(..)      a random accepted table
 careless(..)      a random table whose nodes pass their rows, with cycles that may be refused
 mutated(..)       a table with a word or two changed
 LISTS, CHAIN      the tables L of document 01 and D (sixty-five ones)
-
-Tuples and unions are grown only where all_kinds is asked for: what is grown without it is the same as before E1.
 """
 
-from kinds import AGAIN, BELOW, CONS, DEP, EXCEPT, FIX, NATS, OR, POOL, SHIFT, TUPLE, UNION
+from kinds import AGAIN, BELOW, CONS, DEP, EXCEPT, FIX, NATS, OR, POOL, SHIFT
 from reference import (
     DONE,
     ENDLESS,
-    FEWEST_PARTS,
     LARGEST_SHIFT,
     LARGEST_SIZE,
     MOST_FIRSTS_OF_DEP,
     MOST_NODES,
-    MOST_PARTS,
     NUMBERS_END,
     WORDS_PER_NODE,
     check,
@@ -69,9 +65,8 @@ class Grower:
     """Grows a table. An again is written before its fix has a number, so agains wait in groups:
     an open group is a fix to come, and closing it writes the fix and fills in the agains."""
 
-    def __init__(self, random, all_kinds=False):
+    def __init__(self, random):
         self.random = random
-        self.all_kinds = all_kinds
         self.nodes = []
         self.pool = []
         self.sizes = []
@@ -121,20 +116,18 @@ class Grower:
             return [a, b]
         if kind == DEP:
             return [a, *self.pool[b : b + self.sizes[a]]]
-        if kind in (TUPLE, UNION):
-            return self.pool[a : a + b]
         return [a]
 
     def reached_groups(self, node, guarded, under_except=False):
-        """The open groups that the node leads to; guarded: also by the second part of an or and by any part of a union
-        but the first; under_except: only those below an except."""
+        """The open groups that the node leads to; guarded: also by the second part of an or;
+        under_except: only those below an except."""
         found, met, ahead = set(), set(), [(node, not under_except)]
         while ahead:
             here, counts = ahead.pop()
             if (here, counts) in met:
                 continue
             met.add((here, counts))
-            kind, _, _ = self.nodes[here]
+            kind, a, _ = self.nodes[here]
             if kind == AGAIN:
                 group = self.group_of[here]
                 if group in self.waiting:
@@ -142,7 +135,7 @@ class Grower:
                 else:
                     ahead.append((self.bodies[group], counts))
                 continue
-            parts = self.parts(here)[:1] if kind in (OR, UNION) and not guarded else self.parts(here)
+            parts = [a] if kind == OR and not guarded else self.parts(here)
             ahead += [(part, counts or kind == EXCEPT) for part in parts]
         return found
 
@@ -255,15 +248,6 @@ class Grower:
         body = self.any_node(lambda node: not is_finite(self.sizes[node]))
         return body is not None and self.add(FIX, body)
 
-    def grow_many(self, kind):
-        """A tuple or a union; parts may repeat."""
-        random = self.random
-        endless = lambda node: not is_finite(self.sizes[node])
-        if self.any_node(endless) is None:
-            return False
-        count = random.choice((FEWEST_PARTS, FEWEST_PARTS, random.randrange(FEWEST_PARTS, MOST_PARTS + 1)))
-        return self.add(kind, self.put_pool([self.any_node(endless) for _ in range(count)]), count)
-
     def grow_group(self, care):
         if not self.waiting:
             return False
@@ -284,8 +268,6 @@ class Grower:
             self.open_again: 2 if len(self.waiting) < 3 else 0,
             lambda: self.grow_group(care): 3,
         }
-        if self.all_kinds:
-            ways |= {lambda: self.grow_many(TUPLE): 5, lambda: self.grow_many(UNION): 5}
         way = random.choices(list(ways), weights=list(ways.values()))[0]
         return way()
 
@@ -297,10 +279,10 @@ class Grower:
         return words_of(self.nodes), tuple(self.pool)
 
 
-def accepted(random, count, all_kinds=False):
+def accepted(random, count):
     """A random accepted table of about count nodes, with its pool."""
     while True:
-        grower = Grower(random, all_kinds)
+        grower = Grower(random)
         while len(grower.nodes) < count:
             grower.grow_one()
         grown = grower.finish()
@@ -308,10 +290,10 @@ def accepted(random, count, all_kinds=False):
             return grown
 
 
-def careless(random, count, care, all_kinds=False):
+def careless(random, count, care):
     """A random table in which a fix takes a body with less care, so that unguarded cycles (care ANY) and excepts on
     cycles (care GUARDED) arise."""
-    grower = Grower(random, all_kinds)
+    grower = Grower(random)
     grower.add(BELOW, 1)
     while len(grower.nodes) < count:
         grower.grow_one(care)
@@ -321,8 +303,6 @@ def careless(random, count, care, all_kinds=False):
             grower.grow_two_parts(random.choice((OR, OR, CONS)))
         if random.random() < 0.2:
             grower.grow_except()
-        if all_kinds and random.random() < 0.3:
-            grower.grow_many(random.choice((TUPLE, UNION, UNION)))
     for group in sorted(grower.waiting):
         grower.close(group, care) or grower.close(group, ANY)
     return words_of(grower.nodes), tuple(grower.pool)

@@ -2,7 +2,7 @@
 
 Prints an input of the program `calls`; with the argument `answers`, what it must print. Nothing here asks the reference:
 a listing's elements stand as the paper prints them, and an encoding says which cells stand for an element.
-docs/LISTINGS.md has a line for each. Those of tuples and unions stand apart, for another crate has them.
+docs/LISTINGS.md has a line for each.
 """
 
 import re
@@ -11,7 +11,7 @@ from dataclasses import dataclass
 
 from answer import refused
 from grammars import LISTS, LISTS_START
-from kinds import AGAIN, BELOW, CONS, DEP, EXCEPT, FIX, NATS, OR, POOL, SHIFT, TUPLE, UNION
+from kinds import AGAIN, BELOW, CONS, DEP, EXCEPT, FIX, NATS, OR, POOL, SHIFT
 from stated import Stated
 
 
@@ -106,8 +106,6 @@ BITS = (BELOW, 2, 0, CONS, 0, 0, CONS, 1, 0), (), 2
 BOUNDED = (BELOW, 2, 0, BELOW, 3, 0, CONS, 0, 0, CONS, 0, 1, CONS, 1, 1, DEP, 1, 0), (2, 3, 4), 5
 EXCHANGED = (BELOW, 1, 0, NATS, 0, 0, AGAIN, 5, 0, CONS, 1, 2, OR, 3, 0, FIX, 4, 0), ()
 EAGER = (AGAIN, 1, 0, FIX, 0, 0), ()
-TUPLE_OF_THREE = (NATS, 0, 0, TUPLE, 0, 3), (0, 0, 0), 1
-UNION_OF_THREE = (NATS, 0, 0, UNION, 0, 3), (0, 0, 0), 1
 
 
 # ---- the listings, those of one table together ----
@@ -358,37 +356,6 @@ LISTINGS = (
     ),
 )
 
-LISTINGS_OF_PARTS = (
-    Listing(
-        "000-list3-tuple",
-        "000, section 4",
-        "list/e of three naturals: the first 8 elements",
-        TUPLE_OF_THREE,
-        numbers,
-        """(0 0 0) (0 0 1) (0 1 0) (0 1 1)
-           (1 0 0) (1 0 1) (1 1 0) (1 1 1)""",
-    ),
-    Listing(
-        "000-list3-cube",
-        "000, section 4",
-        "list/e of three naturals: an equilibrium point at a perfect cube, 27",
-        TUPLE_OF_THREE,
-        numbers,
-        "",  # not printed; by the formula of section 5:
-        "(2 2 2) (0 0 3)",
-        first=26,
-    ),
-    Listing(
-        "000-or3",
-        "000, section 5; 001, section 3.3, figure 2, right",
-        "or/e (disj-sum/e) of three: the first 9 elements",
-        UNION_OF_THREE,
-        numbers,
-        "",  # not printed, and 001's figure is a gap in the text at hand; by quotient and remainder, as both papers say:
-        "0:0 1:0 2:0 0:1 1:1 2:1 0:2 1:2 2:2",
-    ),
-)
-
 # what fails to terminate in the papers: (place, what, table and pool, lowest node of the cycle)
 ENDLESS_DECODING = (
     ("000, section 3; 001, section 2", "lists of numbers with the parts of the union exchanged", EXCHANGED, 2),
@@ -396,9 +363,10 @@ ENDLESS_DECODING = (
 )
 
 
-def put_listings(stated, listings):
+def stated_listings():
+    stated = Stated()
     standing = None
-    for listing in listings:
+    for listing in LISTINGS:
         table, pool, start = listing.grammar
         if listing.grammar != standing:
             stated.table(table, pool)
@@ -407,23 +375,11 @@ def put_listings(stated, listings):
             stated.both(start, number, cells)
         if listing.size:
             stated.size(start, listing.size)
-
-
-def stated_listings():
-    stated = Stated()
-    put_listings(stated, LISTINGS)
     for _, _, (table, pool), node in ENDLESS_DECODING:
         stated.table(table, pool)
         stated.say("check", refused(9, node))
     return stated
 
 
-def stated_listings_of_parts():
-    stated = Stated()
-    put_listings(stated, LISTINGS_OF_PARTS)
-    return stated
-
-
 if __name__ == "__main__":
     stated_listings().print()
-    stated_listings_of_parts().print()

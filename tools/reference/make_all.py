@@ -12,13 +12,10 @@ from pathlib import Path
 
 import listings
 import make_check
-import make_part_checks
-import make_parts
 import make_read
 import make_rows
 import make_write
 import worked
-import worked_parts
 from answer import MOST_INPUT_BYTES, answers
 
 CRATES = Path(__file__).resolve().parents[2] / "crates"
@@ -40,8 +37,6 @@ def parts():
     yield "vectors_write", [seeded(make_write), seeded(make_check)]
     yield "vectors_read", [seeded(make_read)]
     yield "vectors_rows", [seeded(make_rows), stated(worked.worked()), stated(listings.stated_listings())]
-    printed = [stated(worked_parts.worked_parts()), stated(listings.stated_listings_of_parts())]
-    yield "vectors_parts", [seeded(make_parts), seeded(make_part_checks), *printed]
 
 
 def joined(made):

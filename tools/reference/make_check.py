@@ -21,7 +21,7 @@ from grammars import (
     mutated,
     words_of,
 )
-from kinds import AGAIN, BELOW, CONS, DEP, EXCEPT, FIRST_UNKNOWN, FIX, NATS, OR, POOL, SHIFT
+from kinds import AGAIN, BELOW, CONS, DEP, EXCEPT, FIX, NATS, OR, POOL, SHIFT
 from reference import LARGEST_SHIFT, LARGEST_SIZE, MOST_FIRSTS_OF_DEP, MOST_NODES, MOST_POOL_WORDS, nodes_of
 from shapes import ROOT
 from vectors import Vectors, print_made
@@ -112,14 +112,12 @@ PREFIX = nodes_of(PARTS)
 TRIED = len(PREFIX)
 SUFFIX = ((FIX, 2, 0), (NATS, 0, 0))
 EDGE_POOL = (1, 3, 0, 2, 7, 7, 8, 5, 5, 1, 9, 6)
-UNKNOWN_KINDS = (FIRST_UNKNOWN, FIRST_UNKNOWN + 1, LAST_WORD)
-KINDS_TRIED = (*range(10), *UNKNOWN_KINDS)  # document 01's own; make_part_checks.py tries tuple and union
+ALL_KINDS = (*range(10), *range(10), 10, 11, LAST_WORD)
 
 
 def edges(vectors, random):
     """One node with words at the edges of every check, sometimes followed by another fault."""
-    words = [(kind, a, b) for kind in KINDS_TRIED for a in EDGE_WORDS for b in EDGE_WORDS]
-    tried = sorted((kind, a, b) for kind, a, b in words if kind not in UNKNOWN_KINDS or a < 2)
+    tried = sorted({(kind, a, b) for kind in ALL_KINDS for a in EDGE_WORDS for b in EDGE_WORDS if kind < 10 or a < 2})
     for node in random.sample(tried, EDGE_TABLES):
         suffix = SUFFIX if random.random() < 0.8 else ((FIX, 2, 1), (99, 0, 0))
         vectors.checked(words_of((*PREFIX, node, *suffix)), EDGE_POOL)
@@ -252,7 +250,7 @@ def excepts(vectors):
 # Faulty nodes over PREFIX and EDGE_POOL; OWN stands for the node's own number, ABOVE for the one after it.
 OWN, ABOVE = "own", "above"
 FAULTS = (
-    (FIRST_UNKNOWN, 0, 0),
+    (10, 0, 0),
     (LAST_WORD, LAST_WORD, LAST_WORD),
     (BELOW, 1, 1),
     (BELOW, 0, 1),

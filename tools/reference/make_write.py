@@ -7,7 +7,7 @@ from random import Random
 
 from answer import MOST_ROOM
 from grammars import GUARDED, LAST_WORD, LISTS, LISTS_START, accepted, careless, mutated, words_of
-from kinds import AGAIN, BELOW, CONS, EXCEPT, FIRST_UNKNOWN, FIX, NATS, OR, POOL
+from kinds import AGAIN, BELOW, CONS, EXCEPT, FIX, NATS, OR, POOL
 from reference import DONE, MOST_CELLS, NUMBERS_END, check, is_finite, sizes, write
 from shapes import PRINTED, RULES, chain, chains, last_node, of_length, recursions, shifted, under_excepts
 from vectors import Vectors, print_made
@@ -87,7 +87,7 @@ REFUSED = (
     (LISTS[:-1], ()),
     (LISTS * 43, ()),
     (LISTS, (0,) * 4_097),
-    ((*LISTS, FIRST_UNKNOWN, 0, 0), ()),
+    ((*LISTS, 10, 0, 0), ()),
     ((*LISTS, NATS, 0, 1), ()),
     ((*LISTS, OR, 6, 0), ()),
     ((*LISTS, BELOW, 0, 0), ()),

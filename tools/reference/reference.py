@@ -1,4 +1,4 @@
-"""The rules of document 01 and request E1 in Python, with whole numbers of any length and the plainest algorithms.
+"""The rules of document 01 in Python, with whole numbers of any length and the plainest algorithms.
 
 check(table, pool)                            the verdict: (refusal, node), (0, 0) for an accepted table
 sizes(table, pool)                            the sizes of an accepted table's nodes
@@ -8,8 +8,7 @@ write_row(table, pool, start, numbers, room)  (refusal, node, item, cells)
 read_row(table, pool, start, cells, room)     (refusal, node, item, numbers)
 reader(table, pool, start, cells)             a generator of (refusal, node, items, number, cells used), one per ask
 
-Sentences in quotation marks are document 01's, or E1's where that is named. Every answer in the vectors comes from this
-file.
+Sentences in quotation marks are document 01's. Every answer in the vectors comes from this file.
 """
 
 import math
@@ -17,8 +16,7 @@ import sys
 from functools import lru_cache
 from typing import NamedTuple
 
-from kinds import AGAIN, BELOW, CONS, DEP, EXCEPT, FIX, NATS, OR, POOL, SHIFT, TUPLE, UNION
-from parts import join_tuple, join_union, split_tuple, split_union
+from kinds import AGAIN, BELOW, CONS, DEP, EXCEPT, FIX, NATS, OR, POOL, SHIFT
 
 sys.setrecursionlimit(10_000)  # a walk calls itself to depth 201; the rest is slack
 
@@ -45,8 +43,6 @@ WORDS_PER_NODE = 3
 MOST_NODES = 256
 MOST_POOL_WORDS = 4_096
 MOST_FIRSTS_OF_DEP = 256
-FEWEST_PARTS = 3  # of a tuple or a union
-MOST_PARTS = 8
 LARGEST_SHIFT = 2**32
 LARGEST_SIZE = 2**62
 NUMBERS_END = 2**62  # "Numbers asked for are below 2^62"
@@ -67,8 +63,6 @@ USED = {
     EXCEPT: (True, True),
     FIX: (True, False),
     AGAIN: (True, False),
-    TUPLE: (True, True),
-    UNION: (True, True),
 }
 
 
@@ -207,18 +201,6 @@ def row_again(nodes, pool, known, node, a, b):
     return DONE, ENDLESS
 
 
-def row_of_parts(nodes, pool, known, node, a, b):
-    # E1: "count outside 3 to 8 or past the pool 5, part not lower 4, part finite 7"
-    if not (FEWEST_PARTS <= b <= MOST_PARTS and a + b <= len(pool)):
-        return refuse(RANGE)
-    parts = pool[a : a + b]
-    if not all(part < node for part in parts):
-        return refuse(REFERENCE)
-    if any(is_finite(known[part]) for part in parts):
-        return refuse(UNSUITED_PART)
-    return DONE, ENDLESS
-
-
 ROWS = {
     BELOW: row_below,
     NATS: row_nats,
@@ -230,8 +212,6 @@ ROWS = {
     EXCEPT: row_except,
     FIX: row_fix,
     AGAIN: row_again,
-    TUPLE: row_of_parts,
-    UNION: row_of_parts,
 }
 
 
@@ -249,19 +229,13 @@ def check_node(nodes, pool, known, node):
 
 # ---- cycles ----
 # "Steps of the graph go from a node to the nodes it names: to both parts, to a dep's first and each second, and
-# from again to its fix." A tuple and a union name each of their parts.
+# from again to its fix."
 
 
 def seconds_of(grammar, node):
     """A dep's seconds, one for each number of its first part."""
     _, first, place = grammar.nodes[node]
     return grammar.pool[place : place + grammar.sizes[first]]
-
-
-def parts_of(grammar, node):
-    """The parts of a tuple or a union: E1's "pool words name the parts"."""
-    _, place, count = grammar.nodes[node]
-    return grammar.pool[place : place + count]
 
 
 def steps(grammar, node):
@@ -272,16 +246,13 @@ def steps(grammar, node):
         return [a, b]
     if kind == DEP:
         return [a, *seconds_of(grammar, node)]
-    if kind in (TUPLE, UNION):
-        return list(parts_of(grammar, node))
     return [a]  # shift, except, fix and again name one node
 
 
 def unguarded_steps(grammar, node):
-    """The steps that are not to the second part of an or. E1: "A step to any part of a union but the first guards a
-    cycle as an or's second part does." """
-    kind, _, _ = grammar.nodes[node]
-    return steps(grammar, node)[:1] if kind in (OR, UNION) else steps(grammar, node)
+    """The steps that are not to the second part of an or."""
+    kind, a, _ = grammar.nodes[node]
+    return [a] if kind == OR else steps(grammar, node)
 
 
 def on_cycle(ways, node):
@@ -485,13 +456,6 @@ def show(grammar, node, n, depth, cells, room):
         show(grammar, seconds[first], second, deeper, cells, room)
     elif kind == EXCEPT:
         show(grammar, a, split_except(b, n), deeper, cells, room)
-    elif kind == TUPLE:
-        for part, number in zip(parts_of(grammar, node), split_tuple(b, n)):
-            show(grammar, part, number, deeper, cells, room)
-    elif kind == UNION:
-        tag, number = split_union(b, n)
-        put(cells, tag, room)
-        show(grammar, parts_of(grammar, node)[tag], number, deeper, cells, room)
     else:  # "fix: the body at n. again: its fix at n."
         show(grammar, a, n, deeper, cells, room)
 
@@ -584,18 +548,6 @@ def find(grammar, node, depth, row, place, off):
         if part == b:
             raise Refused(NOT_A_CASE)  # "the case an except removed (met after its last cell)"
         return (part if part < b else part - 1), place
-    if kind == TUPLE:
-        numbers = []
-        for part in parts_of(grammar, node):
-            number, place = find(grammar, part, deeper, row, place, 0)
-            numbers.append(number)
-        return min(FAR, join_tuple(numbers)), place
-    if kind == UNION:
-        tag = take(row, place)
-        if tag >= b:
-            raise Refused(NOT_A_CASE)  # E1: "A read tag of k or more is 15."
-        number, place = find(grammar, parts_of(grammar, node)[tag], deeper, row, place + 1, 0)
-        return min(FAR, join_union(b, tag, number)), place
     return find(grammar, a, deeper, row, place, 0)  # fix, again
 
 

@@ -1,23 +1,35 @@
 """Asserts the worked cases of document 01, the settled readings of it, and laws that hold for every table.
 
-Prints ok. Run: python3 self_test.py, which runs self_test_parts.py too: tuples and unions.
+Prints ok. Run: python3 self_test.py
 """
 
 from random import Random
 
 import reference
-import self_test_parts
 from answer import answers
 from cells import zeros
 from grammars import ANY, CHAIN, CHAIN_START, GUARDED, LISTS, LISTS_START, accepted, careless, words_of
 from kinds import AGAIN, BELOW, CONS, DEP, EXCEPT, FIX, NATS, OR, POOL
-from reference import ENDLESS, WORDS_PER_NODE, check, read_row, reader, sizes, survey, write, write_row
-from self_test_parts import ACCEPTED, END, ROOM, cells_of, number_of
+from reference import ENDLESS, WORDS_PER_NODE, check, read, read_row, reader, sizes, survey, write, write_row
 from shapes import doubled, shifted
 
+ROOM = 70_000
+ACCEPTED = (0, 0)
+END = 2**62
 UNIT = (BELOW, 1, 0)
 TWO_NATS = (NATS, 0, 0, CONS, 0, 0)
 SEED = 1
+
+
+def cells_of(table, pool, start, number, room=ROOM):
+    refusal, _, cells = write(table, pool, start, number, room)
+    return refusal if refusal else cells
+
+
+def number_of(table, pool, start, cells):
+    """("number", N), or the refusal."""
+    refusal, _, number = read(table, pool, start, cells)
+    return refusal if refusal else ("number", number)
 
 
 def shifts(count):
@@ -240,16 +252,11 @@ def test_lines():
 # ---- laws ----
 
 
-def each_way(law):
-    """A law over tables of document 01's kinds, and over tables of all kinds."""
-    for all_kinds in (False, True):
-        law(Random(SEED), all_kinds)
-
-
-def every_number_is_read_back(random, all_kinds):
+def test_every_number_of_small_tables():
     """Every number below the size is read back, no two numbers share their cells, none is the beginning of another."""
+    random = Random(SEED)
     for _ in range(300):
-        table, pool = accepted(random, random.randrange(1, 12), all_kinds)
+        table, pool = accepted(random, random.randrange(1, 12))
         for start, size in enumerate(sizes(table, pool)):
             end = 60 if size == ENDLESS or size > 60 else size
             cases = [cells_of(table, pool, start, number) for number in range(end)]
@@ -260,11 +267,12 @@ def every_number_is_read_back(random, all_kinds):
             assert not any(one == other[: len(one)] for one in written for other in written if one is not other)
 
 
-def far_numbers_may_be_kept_nearer(random, all_kinds):
+def test_far_numbers():
     """Keeping a far number as a nearer one changes no answer."""
+    random = Random(SEED)
     far = reference.FAR
     for _ in range(200):
-        table, pool = accepted(random, random.randrange(3, 15), all_kinds)
+        table, pool = accepted(random, random.randrange(3, 15))
         start = random.randrange(len(table) // WORDS_PER_NODE)
         grammar = survey(table, pool)[1]
         for bits in (61, 62, 63, 100):
@@ -289,9 +297,10 @@ def every_path_back(ways, node):
     return follow(node, {node})
 
 
-def cycles_are_found(random, all_kinds):
+def test_cycles():
+    random = Random(SEED)
     for turn in range(600):
-        table, pool = careless(random, random.randrange(3, 11), (ANY, GUARDED)[turn % 2], all_kinds)
+        table, pool = careless(random, random.randrange(3, 11), (ANY, GUARDED)[turn % 2])
         verdict, grammar = survey(table, pool)
         if grammar is None:
             continue
@@ -303,13 +312,8 @@ def cycles_are_found(random, all_kinds):
         assert verdict == ((9, loops[0]) if loops else (10, excepts[0]) if excepts else ACCEPTED)
 
 
-def test_laws():
-    for law in (every_number_is_read_back, far_numbers_may_be_kept_nearer, cycles_are_found):
-        each_way(law)
-
-
 def main():
-    for name, test in (*globals().items(), *vars(self_test_parts).items()):
+    for name, test in list(globals().items()):
         if name.startswith("test_"):
             test()
     print("ok")

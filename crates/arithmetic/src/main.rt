@@ -1,8 +1,6 @@
-// The rules of `numbers` at the numbers that documents 01, 02, 000 and 001 print, and at the edges of a
+// The rules of `numbers` at the numbers that documents 01, 000 and 001 print, and at the edges of a
 // word. Each line has a rule, the sizes or the removed number, a number, and what it is split into
 // or joined to.
-mod tuples;
-
 ghost use Rattle.std.specs.Prelude.{◌<◌, ◌≤◌, ◌^◌};
 ghost use Rattle.numbers.specs.Joined.{limit};
 
@@ -207,5 +205,4 @@ fn main() {
     size_lines(2147483648, 2147483649);
     size_lines(4611686018427387904, 4611686018427387904);
     size_lines(2, ENDLESS);
-    tuples::lines();
 }

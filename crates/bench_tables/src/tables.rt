@@ -39,19 +39,14 @@ fn put_word(pool: &mut [u64; MOST_POOL_WORDS], at: usize, word: u64) {
     pool[at] = word;
 }
 
-// A table with so many words of pool, asked for any number.
-fn endless_over(nodes: usize, words: usize, start: usize) -> Shape {
+// A table without pool, asked for any number.
+fn endless(nodes: usize, start: usize) -> Shape {
     Shape {
         nodes,
-        words,
+        words: 0,
         start,
         limit: LARGEST,
     }
-}
-
-// A table without pool.
-fn endless(nodes: usize, start: usize) -> Shape {
-    endless_over(nodes, 0, start)
 }
 
 // 01's L.
@@ -197,43 +192,6 @@ fn agains(table: &mut [u64; MOST_TABLE_WORDS]) -> Shape {
     endless(255, 254)
 }
 
-// Parts that are all node 0.
-fn put_parts(pool: &mut [u64; MOST_POOL_WORDS], count: usize) {
-    for i in 0..count {
-        put_word(pool, i, 0);
-    }
-}
-
-// A tuple or a union of nats.
-fn of_nats(
-    table: &mut [u64; MOST_TABLE_WORDS],
-    pool: &mut [u64; MOST_POOL_WORDS],
-    kind: u64,
-    count: usize,
-) -> Shape {
-    put(table, 0, kinds::NATS, 0, 0);
-    put(table, 1, kind, 0, count);
-    put_parts(pool, count);
-    endless_over(2, count, 1)
-}
-
-// A number, an operation on one term, or an operation on two.
-fn terms(table: &mut [u64; MOST_TABLE_WORDS], pool: &mut [u64; MOST_POOL_WORDS]) -> Shape {
-    put(table, 0, kinds::NATS, 0, 0);
-    put(table, 1, kinds::AGAIN, 5, 0);
-    put(table, 2, kinds::CONS, 0, 1);
-    put(table, 3, kinds::TUPLE, 0, 3);
-    put(table, 4, kinds::UNION, 3, 3);
-    put(table, 5, kinds::FIX, 4, 0);
-    put_word(pool, 0, 0);
-    put_word(pool, 1, 1);
-    put_word(pool, 2, 1);
-    put_word(pool, 3, 0);
-    put_word(pool, 4, 2);
-    put_word(pool, 5, 3);
-    endless_over(6, 6, 5)
-}
-
 pub fn laid_out(
     number: u64,
     table: &mut [u64; MOST_TABLE_WORDS],
@@ -259,10 +217,6 @@ pub fn laid_out(
         17 => at_zero(pairs(table, 10)),
         18 => at_zero(pairs(table, 13)),
         19 => at_zero(wide(table)),
-        20 => of_nats(table, pool, kinds::TUPLE, 3),
-        21 => of_nats(table, pool, kinds::TUPLE, 8),
-        22 => terms(table, pool),
-        23 => of_nats(table, pool, kinds::UNION, 3),
         _ => numbers_list(table),
     }
 }

@@ -122,7 +122,7 @@ pub settled_cells : (g : ℕ → Rule) (i n room : ℕ) {f : Fit} → f ≡ fitt
 settled_cells g i n room e q = λ r u. let z : ◌≡◌ {A = ℕ} 0 1 = cc in absurd (omega arith)
 
 -- where every case fits, the only refusal is 12
-pub settled_sure : {plan p : List ℕ} {i : ℕ} (h : Reading plan p i) (n : ℕ) (old : List ℕ) {room : ℕ} → room ≡ room_for (length old) → Sure plan p i room
+pub settled_sure : {plan p : List ℕ} {i : ℕ} (h : Reading plan p i) (n : ℕ) (old : List ℕ) {room : ℕ} → room ≡ room_for (length old) → Sure plan i room
     → Settled (rule_in plan p) i n (length old)
 settled_sure {plan} {p} {i} h n old m s r q = by (asked (rule_in plan p i).size n) refl
   where
@@ -131,7 +131,7 @@ settled_sure {plan} {p} {i} h n old m s r q = by (asked (rule_in plan p i).size 
     by true u =
         let a = was_asked (rule_in plan p i).size n u in
         let b = subst (Below n) (sym (h.walks.good.sized i h.node)) a.below in
-        let w = s.fits n (record { walks = h.walks; node = h.node; below = b }) in
+        let w = s.fits p n (record { walks = h.walks; node = h.node; below = b }) in
         let k : fitted (rule_in plan p) i n (length old) ≡ Cells (length w.case) = fitted_is (rule_in plan p) i n (length old) w.case a w.shows
         (omega (arith, w.few, m)) in
         let z : ◌≡◌ {A = ℕ} 0 1 = cc in

@@ -19,7 +19,7 @@ pub fn write_case<'a>(
     requires { Reading plan.now pool.now start }
     ensures { Placed (rule_in plan.now pool.now) start number cells.old cells.new result }
 {
-    if sure(pool, plan, start, room_for(cells.len())) {
+    if sure(plan, start, room_for(cells.len())) {
         return fits(pool, plan, start, number, cells);
     }
     match decided(pool, plan, start, number, cells.len()) {

@@ -1,7 +1,6 @@
 -- The steps of a node, by its kind word.
 --   steps_by        the nodes that a node names are those of its kind's rule; unknown_steps none, of no kind
 --   dep_first, dep_count, dep_run   what the code of dep has of its first part and of its seconds
---   tuple_run, union_run   what the code of tuple and union has of their parts
 --   names_as        steps that are the same
 -- Assumes nothing.
 use mathlib.Core.Path.{◌≡◌, sym, subst, ap}
@@ -27,7 +26,6 @@ use Rattle.grammar.specs.declared.named.Named.{Named}
 use Rattle.grammar.proofs.Known.{Others, others_unknown}
 use Rattle.grammar.proofs.Stepping.{few_word}
 use Rattle.grammar.proofs.laws.Dep.{Shown, shows}
-use Rattle.grammar.proofs.Parts as Parts
 
 pub names_as : {p xs ys : List ℕ} {r : Named} → xs ≡ ys → Names p xs r → Names p ys r
 names_as {p} {xs} {ys} {r} e h = subst (λ (zs : List ℕ). Names p zs r) e h
@@ -58,11 +56,3 @@ module _ {t p plan : List ℕ} (r : Ready t p plan) {n : ℕ} (h : n < nodes t) 
   pub dep_steps : (guarded : Bool) → a_of t n ∷ seconds p (b_of t n) (size_in plan (a_of t n)) ≡ steps_of guarded t p (size_in plan) n
   unfolding dep_rule
   dep_steps guarded = rw shown.low at (steps_by guarded t p (size_in plan) n e)
-
--- ---- a tuple, a union
-module _ {t p plan : List ℕ} (r : Ready t p plan) {n : ℕ} (h : n < nodes t) where
-  pub tuple_run : kind_of t n ≡ 10 → Parts.Shown (node_at t p n) (size_in plan)
-  tuple_run e = Parts.shows _ (size_in plan) (subst (λ (k : ℕ). Holds ((kind_in k).checks (node_at t p n) (before (size_in plan) n))) e (r.checked.holds n h))
-
-  pub union_run : kind_of t n ≡ 11 → Parts.Shown (node_at t p n) (size_in plan)
-  union_run e = Parts.shows _ (size_in plan) (subst (λ (k : ℕ). Holds ((kind_in k).checks (node_at t p n) (before (size_in plan) n))) e (r.checked.holds n h))

@@ -7,7 +7,6 @@ pub mod Trees
 pub mod Words
 pub mod Seconds
 pub mod KindLaw
-pub mod Parts
 pub mod laws
 pub mod Sizes
 pub mod Checked

@@ -7,9 +7,6 @@ use Rattle.numbers.specs.Cons
 use Rattle.numbers.specs.Dep.{in_turn}
 use Rattle.numbers.specs.Dep
 use Rattle.numbers.specs.Except
-use Rattle.numbers.specs.Power.{root_by as power_by, root_of}
-use Rattle.numbers.specs.Tuple.{largest, ways, tail, rank}
-use Rattle.numbers.specs.Tuple
 use Rattle.graph.specs.Ways.{via}
 use Rattle.graph.specs.Lowest.{lowest}
 use Rattle.grammar.specs.Refusals.{number_of}
@@ -21,7 +18,6 @@ use Rattle.grammar.specs.Verdict.{leads, unguarded, except_on_cycle, cycles, set
 
 unfoldable pub sums : Unit {0}
 unfolding plus times less root_by root Or.split Or.join Cons.split Cons.join in_turn Dep.split Dep.join Dep.total Except.split Except.join
-    power_by root_of largest ways tail rank Tuple.split Tuple.join
 sums = tt
 
 unfoldable pub checking : Unit {0}

@@ -1,6 +1,5 @@
--- Runs of the pool that a node names.
+-- Runs of the pool that a dep names.
 --   lower-.., finite_run   the tests of a dep's seconds, by the facts that the code has
---   endless-..             the test of a tuple's or a union's parts
 -- Assumes nothing.
 use mathlib.Core.Path.{◌≡◌, sym, ◌∙◌}
 use mathlib.Core.Bool.{Bool, true, false, not, false≢true}
@@ -12,10 +11,9 @@ use lib.Dec.{ltb}
 use lib.ListN.{length, get_or, take, drop}
 use Rattle.numbers.specs.Size.{size_of}
 use Rattle.numbers.proofs.size.SizeWords.{by_size}
-use Rattle.grammar.specs.Checks.{is_endless, all_lower, all_finite, all_endless}
+use Rattle.grammar.specs.Checks.{is_endless, all_lower, all_finite}
 use Rattle.grammar.specs.Plan.{size_in}
 use Rattle.lists.proofs.Runs.{every_run, run_every, run_fails, Upto}
-use Rattle.grammar.proofs.Tests.{endless_word, finite_word}
 
 -- ---- the tests of a dep's seconds, by the facts that the code has
 module _ (n : ℕ) (p : List ℕ) (at count : ℕ) (in_p : at + count ≤ length p) where
@@ -38,9 +36,3 @@ module _ (plan p : List ℕ) (at count : ℕ) (in_p : at + count ≤ length p) w
 
   pub finite_run : {r : Bool} → r ≡ all_finite (size_in plan) (take count (drop at p)) → r ≡ true → (i : ℕ) → i < count → word_at plan p at i < 2 ^ 63
   finite_run e f i l = finite_says (word_at plan p at i) (every_run p at count in_p (λ c. not (is_endless (size_in plan c))) (sym e ∙ f) i l)
-
-  pub endless_all : {i : ℕ} → Upto (λ j. 2 ^ 63 ≤ word_at plan p at j) count i → count ≤ i → true ≡ all_endless (size_in plan) (take count (drop at p))
-  endless_all h l = run_every p at count in_p (λ c. is_endless (size_in plan c)) (λ j m. endless_word (word_at plan p at j) (h.all j (omega arith)))
-
-  pub endless_not : (i : ℕ) → i < count → word_at plan p at i < 2 ^ 63 → false ≡ all_endless (size_in plan) (take count (drop at p))
-  endless_not i l u = run_fails p at count in_p (λ c. is_endless (size_in plan c)) i l (finite_word (word_at plan p at i) u)

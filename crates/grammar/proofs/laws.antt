@@ -14,8 +14,6 @@ pub mod Dep
 pub mod Except
 pub mod Fix
 pub mod Again
-pub mod Tuple
-pub mod Union
 use mathlib.Core.Path.{refl}
 use mathlib.Core.Bool.{false≢true}
 use Rattle.lists.specs.Lists.{has, every}
@@ -31,8 +29,6 @@ use Rattle.grammar.specs.kinds.Cons.{cons_rule}
 use Rattle.grammar.specs.kinds.Dep.{seconds_of, dep_rule}
 use Rattle.grammar.specs.kinds.Except.{except_rule}
 use Rattle.grammar.specs.kinds.Fix.{pass_rule}
-use Rattle.grammar.specs.kinds.Tuple.{parts_at, read_all, tuple_rule}
-use Rattle.grammar.specs.kinds.Union.{union_rule}
 use Rattle.grammar.proofs.KindLaw.{KindLaw, Lower, Plain, All, AllBut}
 use Rattle.grammar.proofs.laws.Below.{below_law, below_lower, below_plain}
 use Rattle.grammar.proofs.laws.Nats.{nats_law, nats_lower, nats_plain}
@@ -44,20 +40,17 @@ use Rattle.grammar.proofs.laws.Dep.{dep_law, dep_lower, dep_plain}
 use Rattle.grammar.proofs.laws.Except.{except_law, except_lower}
 use Rattle.grammar.proofs.laws.Fix.{fix_law, fix_lower, fix_plain}
 use Rattle.grammar.proofs.laws.Again.{again_law, again_plain}
-use Rattle.grammar.proofs.laws.Tuple.{tuple_law, tuple_lower, tuple_plain}
-use Rattle.grammar.proofs.laws.Union.{union_law, union_lower, union_plain}
 
 unfoldable pub rules : Unit {0}
-unfolding below_rule nats_rule pool_rule shift_rule or_rule cons_rule dep_rule except_rule pass_rule tuple_rule union_rule
+unfolding below_rule nats_rule pool_rule shift_rule or_rule cons_rule dep_rule except_rule pass_rule
 rules = tt
 
 unfoldable pub ruling : Unit {0}
-unfolding rules has place_of different every total seconds_of parts_at read_all
+unfolding rules has place_of different every total seconds_of
 ruling = tt
 
 pub laws : All KindLaw kinds
-laws =
-    (below_law, (nats_law, (pool_law, (shift_law, (or_law, (cons_law, (dep_law, (except_law, (fix_law, (again_law, (tuple_law, (union_law, tt))))))))))))
+laws = (below_law, (nats_law, (pool_law, (shift_law, (or_law, (cons_law, (dep_law, (except_law, (fix_law, (again_law, tt))))))))))
 
 -- no check of an unknown kind is passed
 pub unknown_law : KindLaw unknown
@@ -65,58 +58,10 @@ unfolding number_of
 unknown_law = record { gives = λ v z. refl; sees = λ v z h. refl; lawful = λ v z r h. absurd (false≢true h.0); fit = λ v z f h. absurd (false≢true h.0) }
 
 pub lowers : AllBut 9 Lower kinds
-lowers = (
-  below_lower,
-  (
-    nats_lower,
-    (
-      pool_lower,
-      (
-        shift_lower,
-        (
-          or_lower,
-          (
-            cons_lower,
-            (
-              dep_lower,
-              (
-                except_lower,
-                (fix_lower, (tuple_lower, (union_lower, tt))),
-              ),
-            ),
-          ),
-        ),
-      ),
-    ),
-  ),
-)
+lowers = (below_lower, (nats_lower, (pool_lower, (shift_lower, (or_lower, (cons_lower, (dep_lower, (except_lower, (fix_lower, tt)))))))))
 
 pub unknown_lower : Lower unknown
 unknown_lower v z h = tt
 
 pub plains : AllBut 7 Plain kinds
-plains = (
-  below_plain,
-  (
-    nats_plain,
-    (
-      pool_plain,
-      (
-        shift_plain,
-        (
-          or_plain,
-          (
-            cons_plain,
-            (
-              dep_plain,
-              (
-                fix_plain,
-                (again_plain, (tuple_plain, (union_plain, tt))),
-              ),
-            ),
-          ),
-        ),
-      ),
-    ),
-  ),
-)
+plains = (below_plain, (nats_plain, (pool_plain, (shift_plain, (or_plain, (cons_plain, (dep_plain, (fix_plain, (again_plain, tt)))))))))

@@ -4,7 +4,6 @@ pub mod Table
 pub mod Checks
 pub mod Rule
 pub mod Kind
-pub mod Parts
 pub mod kinds
 pub mod Nodes
 pub mod Law

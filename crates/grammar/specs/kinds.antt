@@ -1,4 +1,4 @@
--- 01's table of kinds, and 02's: a file a kind, and the kinds by their numbers.
+-- 01's table of kinds: a file a kind, and the kinds by their numbers.
 --   kinds     the list
 --   used_words the constant table of used words: a row of yes and no for each kind
 --   unknown   of a word that no kind has
@@ -14,8 +14,6 @@ pub mod Dep
 pub mod Except
 pub mod Fix
 pub mod Again
-pub mod Tuple
-pub mod Union
 use Rattle.std.specs.Prelude.{Bool, false, true, List, [], ◌∷◌, map, ℕ, get_or}
 use Rattle.numbers.specs.Size.{finite}
 use Rattle.grammar.specs.Checks.{asks}
@@ -32,11 +30,9 @@ use Rattle.grammar.specs.kinds.Dep.{dep}
 use Rattle.grammar.specs.kinds.Except.{except}
 use Rattle.grammar.specs.kinds.Fix.{fix}
 use Rattle.grammar.specs.kinds.Again.{again}
-use Rattle.grammar.specs.kinds.Tuple.{tuple}
-use Rattle.grammar.specs.kinds.Union.{union}
 
 abbrev pub kinds : List Kind
-kinds = below ∷ nats ∷ pool ∷ shift ∷ or ∷ cons ∷ dep ∷ except ∷ fix ∷ again ∷ tuple ∷ union ∷ []
+kinds = below ∷ nats ∷ pool ∷ shift ∷ or ∷ cons ∷ dep ∷ except ∷ fix ∷ again ∷ []
 
 -- "One constant table says which of a and b each kind uses"
 abbrev pub used_words : List (List Bool)

@@ -1,4 +1,4 @@
-// The kinds of 01 and 02: a file a kind, with the checks of its row in their order and then its size, and what its visits do.
+// 01's kinds: a file a kind, with the checks of its row in their order and then its size, and what its visits do.
 // Which kind a word stands for is asked here, a line a kind: the check of its row, and the nodes that it names.
 ghost use Rattle.std.specs.Prelude.{◌≡◌, List, ℕ, ◌*◌, ◌<◌, ◌≤◌, length};
 ghost use Rattle.numbers.specs.Size.{Size, size_of, code_of};
@@ -9,7 +9,7 @@ ghost use Rattle.grammar.specs.Steps.{steps_of};
 ghost use Rattle.grammar.specs.Plan.{size_in, weighed, weighed_of, Ready};
 ghost use Rattle.grammar.specs.Named.{Names};
 
-use super::named::{Named, none, one, run, two};
+use super::named::{Named, none, one, two};
 use super::refusal::Refusal;
 use numbers::size::{ENDLESS, Measured};
 
@@ -21,12 +21,10 @@ pub mod except;
 pub mod fix;
 pub mod nats;
 pub mod or;
-pub mod parts;
 pub mod pool;
 pub mod shift;
-pub mod union;
 
-// The kind words of 01 and 02.
+// 01's kind words.
 pub const BELOW: u64 = 0;
 
 pub const NATS: u64 = 1;
@@ -47,12 +45,8 @@ pub const FIX: u64 = 8;
 
 pub const AGAIN: u64 = 9;
 
-pub const TUPLE: u64 = 10;
-
-pub const UNION: u64 = 11;
-
 // The length of the table of used words: kind words from here on are not known.
-pub const KINDS: usize = 12;
+pub const KINDS: usize = 10;
 
 // "One constant table says which of a and b each kind uses": yes or no for a and for b, a row a kind.
 const USED: [[bool; 2]; KINDS] = [
@@ -66,8 +60,6 @@ const USED: [[bool; 2]; KINDS] = [
     [true, true], // except: node, number
     [true, false], // fix: body
     [true, false], // again: fix
-    [true, true], // tuple: place, count
-    [true, true], // union: place, count
 ];
 
 // A refusal, or the word of the node's size.
@@ -153,8 +145,6 @@ pub fn row(
         EXCEPT => except::check(plan, n, a as usize, b),
         FIX => fix::check(plan, n, a as usize),
         AGAIN => again::check(table, n, a as usize),
-        TUPLE => parts::check(pool, plan, n, a as usize, b as usize),
-        UNION => parts::check(pool, plan, n, a as usize, b as usize),
         _ => Weighed::Fault(Refusal::Kind),
     }
 }
@@ -179,8 +169,6 @@ pub fn steps_of(table: &[u64], pool: &[u64], plan: &[u64], n: usize, guarded: bo
         EXCEPT => one(a),
         FIX => one(a),
         AGAIN => one(a),
-        TUPLE => run(a, b),
-        UNION => union::steps(a, b, guarded),
         _ => none(),
     }
 }

@@ -1,5 +1,5 @@
 // The nodes that a node names, by value: marking and asking go over that, and know no kind.
-ghost use Rattle.std.specs.Prelude.{List, [], ◌∷◌, ℕ, ◌+◌, ◌≤◌, length, take, drop};
+ghost use Rattle.std.specs.Prelude.{List, [], ◌∷◌, ℕ};
 ghost use Rattle.grammar.specs.Named.{Names};
 
 // Node a where there is a first, node b where there is a second, and the nodes that `count` words of the
@@ -50,19 +50,5 @@ pub fn two(a: usize, b: usize) -> Named
         b,
         at: 0,
         count: 0,
-    }
-}
-
-// A run of the pool's words.
-pub fn run(at: usize, count: usize) -> Named
-    ensures { (p : List ℕ) → at + count ≤ length p → Names p (take count (drop at p)) result }
-{
-    Named {
-        first: false,
-        second: false,
-        a: 0,
-        b: 0,
-        at,
-        count,
     }
 }

@@ -1,6 +1,6 @@
 -- What a visit's calls on its parts ask: the depth left falls, and a part may be visited. Twice the depth left is the
--- measure of a walk, and one more that of `tagged`, `both` and `each` beside it.
---   to_tagged, to_both, to_each   of either walk that writes
+-- measure of a walk, and one more that of `tagged` and `both` beside it.
+--   to_tagged, to_both  of either walk that writes
 --   tally_part; lay_part, lay_shift   of each on a part itself
 --   tally_by, tally_any, tally_up, laid_by   what a visit hands back is what its shape does
 -- Assumes nothing.
@@ -12,7 +12,7 @@ use Rattle.grammar.specs.Rule.{Rule}
 use Rattle.walk.specs.Walk.{Event, cell, walk}
 use Rattle.walk.specs.Laid.{Laid}
 use Rattle.walk.specs.Room.{RoomLeft, tallied, most}
-use Rattle.walk.specs.Plan.{Visits, Parted, Raised}
+use Rattle.walk.specs.Plan.{Visits, Raised}
 use Rattle.walk.proofs.Rooms.{tallied_any, tallied_up}
 use Rattle.walk.proofs.Visit.{Next}
 use Rattle.walk.proofs.Nodes.{raised_zero}
@@ -44,10 +44,6 @@ module _ {plan p : List ℕ} {n left t room : ℕ} (e : 2 * left ≡ t) (f : lef
       → (2 * (left - 1) + 1 < t)
       × ((Visits plan p a x × Visits plan p b y) × ((x + (left - 1) ≤ 2 ^ 62 + 200) × (y + (left - 1) ≤ 2 ^ 62 + 200) × (left - 1 ≤ 200) × (room ≤ most)))
   to_both k o = (omega arith, ((k.visits, o.visits), (omega (arith, k.near, h.0), omega (arith, o.near, h.0), omega (arith, h.1), h.2)))
-
-pub to_each : (n : ℕ) {plan p : List ℕ} {left t room a b : ℕ} → 2 * left ≡ t → (left ≡ 0 → ⊥) → (n + left ≤ 2 ^ 62 + 200) × (left ≤ 200) × (room ≤ most)
-    → Parted plan p a b → (2 * (left - 1) + 1 < t) × (Parted plan p a b × ((n + (left - 1) ≤ 2 ^ 62 + 200) × (left - 1 ≤ 200) × (room ≤ most)))
-to_each n e f h d = (omega arith, (d, (omega (arith, h.0), omega (arith, h.1), h.2)))
 
 module _ {plan p : List ℕ} {n left t : ℕ} (up : ℕ) {long : ℕ} (e : 2 * left ≡ t) (f : left ≡ 0 → ⊥)
     (h : (n + left ≤ 2 ^ 62 + 200) × (up + left * 2 ^ 32 ≤ 200 * 2 ^ 32) × (left ≤ 200) × (long ≤ most)) where

@@ -1,5 +1,4 @@
 -- What the proofs of the writing walk cite.
 pub mod Calls
-pub mod Eachs
 pub mod Lays
 pub mod Sures

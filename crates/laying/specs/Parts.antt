@@ -1,17 +1,13 @@
--- A visit with two parts, a tag and a part, or a tuple's parts, in the words of a plan.
+-- A visit with two parts, or a tag and a part, in the words of a plan.
 --   VisitsTwo    both parts may be visited
 --   tag_walk      what the walk of a tag and its part meets
 --   two_walks     what the walks of both parts meet
---   parts_walk    what the walks of a tuple's parts meet, one after the other
 -- Assumes nothing.
 use Rattle.std.specs.Prelude.{List, ◌∷◌, ◌++◌, ℕ}
-use Rattle.numbers.specs.Tuple.{split}
-use Rattle.grammar.specs.Parts.{parts_of}
 use Rattle.grammar.specs.Plan.{rule_in}
-use Rattle.grammar.specs.kinds.Tuple.{parts_at}
 use Rattle.grammar.specs.declared.kinds.Two.{Two}
 use Rattle.grammar.specs.declared.kinds.Tagged.{Tagged}
-use Rattle.walk.specs.Walk.{Event, cell, shown, walk}
+use Rattle.walk.specs.Walk.{Event, cell, walk}
 use Rattle.walk.specs.Plan.{Visits}
 
 abbrev pub VisitsTwo : List ℕ → List ℕ → Two → Type 0
@@ -22,7 +18,3 @@ tag_walk plan p left tag s = cell tag ∷ walk (rule_in plan p) left 0 s.part s.
 
 abbrev pub two_walks : List ℕ → List ℕ → ℕ → Two → List Event
 two_walks plan p left s = walk (rule_in plan p) left 0 s.first s.x ++ walk (rule_in plan p) left 0 s.second s.y
-
--- by its words a and b
-abbrev pub parts_walk : List ℕ → List ℕ → ℕ → ℕ → ℕ → ℕ → List Event
-parts_walk plan p left a b n = shown (walk (rule_in plan p) left) 0 (parts_at (parts_of a b p) (split b n))

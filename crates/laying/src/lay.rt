@@ -5,13 +5,13 @@ ghost use Rattle.walk.specs.Walk.{cell, walk};
 ghost use Rattle.walk.specs.Room.{most};
 ghost use Rattle.walk.specs.Laid.{Laid, left_of};
 ghost use Rattle.walk.specs.Lent.{pool_of, plan_of};
-ghost use Rattle.walk.specs.Plan.{Visits, Parted, Raised};
-ghost use Rattle.laying.specs.Parts.{VisitsTwo, tag_walk, two_walks, parts_walk};
+ghost use Rattle.walk.specs.Plan.{Visits, Raised};
+ghost use Rattle.laying.specs.Parts.{VisitsTwo, tag_walk, two_walks};
 
 use super::tally::{NO_ROOM, TOO_DEEP};
 use grammar::kinds;
-use grammar::kinds::{Tagged, Two, cons, dep, or, pool, union};
-use numbers::{except, tuple};
+use grammar::kinds::{Tagged, Two, cons, dep, or, pool};
+use numbers::except;
 use walk::lent::{LENT, PLAN, POOL};
 
 // One cell of the case.
@@ -27,7 +27,7 @@ fn put(c: u64, out: &mut [u64]) -> usize
 }
 
 // A tag cell, then a part.
-#[cycle(both_each_lay_tagged)]
+#[cycle(both_lay_tagged)]
 fn tagged(lent: &[&[u64]; LENT], s: Tagged, left: usize, out: &mut [u64]) -> usize
     requires visits { Visits (plan_of lent.now) (pool_of lent.now) s.part s.number }
     requires left_bound { (s.number + left ≤ 2 ^ 62 + 200) × (left ≤ 200) × (length out.old ≤ most) }
@@ -44,7 +44,7 @@ fn tagged(lent: &[&[u64]; LENT], s: Tagged, left: usize, out: &mut [u64]) -> usi
 
 // Two parts at two numbers. "The second part's cells start right after the first part's": the middle of
 // the buffer that remains is lent on for them.
-#[cycle(both_each_lay_tagged)]
+#[cycle(both_lay_tagged)]
 fn both(lent: &[&[u64]; LENT], s: Two, left: usize, out: &mut [u64]) -> usize
     requires visits_two { VisitsTwo (plan_of lent.now) (pool_of lent.now) s }
     requires left_bound { (s.x + left ≤ 2 ^ 62 + 200) × (s.y + left ≤ 2 ^ 62 + 200) × (left ≤ 200) × (length out.old ≤ most) }
@@ -60,32 +60,10 @@ fn both(lent: &[&[u64]; LENT], s: Two, left: usize, out: &mut [u64]) -> usize
     lay(lent, s.second, s.y, 0, left, &mut out[k..])
 }
 
-// The parts of a tuple at their numbers, one after the other: each one's cells start right after those before.
-#[cycle(both_each_lay_tagged)]
-fn each(lent: &[&[u64]; LENT], a: usize, b: usize, n: u64, left: usize, out: &mut [u64]) -> usize
-    requires parted { Parted (plan_of lent.now) (pool_of lent.now) a b }
-    requires left_bound { (n + left ≤ 2 ^ 62 + 200) × (left ≤ 200) × (length out.old ≤ most) }
-    ensures { Laid (length out.old)
-        (parts_walk (plan_of lent.now) (pool_of lent.now) left a b n)
-        out.old out.new (left_of result) }
-{
-    let parts = tuple::split(b, n);
-    let pool = lent[POOL];
-    let mut rest = out.len();
-    for j in 0..b {
-        let k = out.len() - rest;
-        rest = lay(lent, pool[a + j] as usize, parts[j], 0, left, &mut out[k..]);
-        if TOO_DEEP <= rest {
-            return rest;
-        }
-    }
-    rest
-}
-
 // "visits the node's parts at one depth more": the walk calls itself on parts, and the depth left falls.
 // `up` is what the shifts above add to the first cell. Only a below, a nats or a shift stands under a
 // shift, so every other kind has 0 there.
-#[cycle(both_each_lay_tagged)]
+#[cycle(both_lay_tagged)]
 pub fn lay(lent: &[&[u64]; LENT], i: usize, n: u64, up: u64, left: usize, out: &mut [u64]) -> usize
     requires visits { Visits (plan_of lent.now) (pool_of lent.now) i n × Raised (plan_of lent.now) i up }
     requires left_bound { (n + left ≤ 2 ^ 62 + 200) × (up + left * 2 ^ 32 ≤ 200 * 2 ^ 32) × (left ≤ 200) × (length out.old ≤ most) }
@@ -116,13 +94,6 @@ pub fn lay(lent: &[&[u64]; LENT], i: usize, n: u64, up: u64, left: usize, out: &
         kinds::EXCEPT => lay(lent, a, except::split(b, n), 0, left - 1, out),
         kinds::FIX => lay(lent, a, n, 0, left - 1, out),
         kinds::AGAIN => lay(lent, a, n, 0, left - 1, out),
-        kinds::TUPLE => each(lent, a, b as usize, n, left - 1, out),
-        kinds::UNION => tagged(
-            lent,
-            union::step(lent[POOL], a, b as usize, n),
-            left - 1,
-            out,
-        ),
         // Not reached: a checked plan has no other kind.
         _ => NO_ROOM,
     }

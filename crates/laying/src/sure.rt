@@ -1,9 +1,7 @@
 // Whether every case of a node fits a room, whatever its number: then a call may write in one pass.
 // It goes by widths: the most cells that a node's cases may have.
-ghost use Rattle.std.specs.Prelude.{◌≡◌, true, ◌+◌, ◌≤◌, min, max, length};
-ghost use Rattle.grammar.specs.Parts.{parts_of};
-ghost use Rattle.walk.specs.Plan.{Reading};
-ghost use Rattle.laying.specs.Sure.{Sure, Width, Low, Widths, wide, width_at, width_sum, width_most};
+ghost use Rattle.std.specs.Prelude.{◌≡◌, true, ◌+◌, ◌*◌, ◌<◌, min, max, length};
+ghost use Rattle.laying.specs.Sure.{Sure, Width, Widths, wide, width_at};
 
 use grammar::kinds;
 
@@ -37,37 +35,13 @@ fn part(widths: &[usize; NODES], a: usize) -> usize
     WIDE
 }
 
-// The width of the nodes that `count` words of the pool name, from `at` on, one after the other.
-fn sum_of(pool: &[u64], at: usize, count: usize, widths: &[usize; NODES]) -> usize
-    requires { (at + count ≤ length pool.now) × Low widths.now }
-    ensures { result ≡ min (width_sum widths.now (parts_of at count pool.now)) wide }
-{
-    let mut w: usize = 0;
-    for j in 0..count {
-        w = capped(w + part(widths, pool[at + j] as usize));
-    }
-    w
-}
-
-// The width of the widest of them.
-fn widest_of(pool: &[u64], at: usize, count: usize, widths: &[usize; NODES]) -> usize
-    requires { (at + count ≤ length pool.now) × Low widths.now }
-    ensures { result ≡ width_most widths.now (parts_of at count pool.now) }
-{
-    let mut w: usize = 0;
-    for j in 0..count {
-        w = larger(w, part(widths, pool[at + j] as usize));
-    }
-    w
-}
-
 // A width of node k, from those of its parts. A part that is not filled yet is WIDE, and so is what is
-// made of it. Of a kind without a line it is not known: a dep may have 256 seconds, an again leads back to
-// its fix.
-fn width_of(pool: &[u64], plan: &[u64], k: usize, widths: &[usize; NODES]) -> usize
-    requires reading { Reading plan.now pool.now k }
-    requires widths { Widths plan.now pool.now widths.now k }
-    ensures { Width plan.now pool.now k result (k + 1) }
+// made of it. Of a kind without a line it is not known: a dep has seconds in the pool, an again leads back
+// to its fix.
+fn width_of(plan: &[u64], k: usize, widths: &[usize; NODES]) -> usize
+    requires k_in_bounds { 4 * k + 3 < length plan.now }
+    requires widths { Widths plan.now widths.now k }
+    ensures { Width plan.now k result (k + 1) }
 {
     let kind = plan[4 * k];
     let a = plan[4 * k + 1] as usize;
@@ -81,16 +55,14 @@ fn width_of(pool: &[u64], plan: &[u64], k: usize, widths: &[usize; NODES]) -> us
         kinds::CONS => capped(part(widths, a) + part(widths, b)),
         kinds::EXCEPT => part(widths, a),
         kinds::FIX => part(widths, a),
-        kinds::TUPLE => sum_of(pool, a, b, widths),
-        kinds::UNION => capped(1 + widest_of(pool, a, b, widths)),
         _ => WIDE,
     }
 }
 
 // "Depth is at most 200. A case has at most 65,536 cells": whether every case of node i fits a room.
-pub fn sure(pool: &[u64], plan: &[u64], i: usize, room: usize) -> bool
-    requires { Reading plan.now pool.now i }
-    ensures { result ≡ true → Sure plan.now pool.now i room }
+pub fn sure(plan: &[u64], i: usize, room: usize) -> bool
+    requires { 4 * i + 3 < length plan.now }
+    ensures { result ≡ true → Sure plan.now i room }
 {
     if NODES <= i {
         return false;
@@ -105,7 +77,7 @@ pub fn sure(pool: &[u64], plan: &[u64], i: usize, room: usize) -> bool
     }
     let mut widths = [WIDE; NODES];
     for k in 0..i + 1 {
-        widths[k] = width_of(pool, plan, k, &widths);
+        widths[k] = width_of(plan, k, &widths);
     }
     let w = widths[i];
     if w == WIDE {

@@ -5,12 +5,12 @@ ghost use Rattle.walk.specs.Walk.{cell, walk};
 ghost use Rattle.walk.specs.Room.{tallied, most};
 ghost use Rattle.walk.specs.Laid.{left_of};
 ghost use Rattle.walk.specs.Lent.{pool_of, plan_of};
-ghost use Rattle.walk.specs.Plan.{Visits, Parted};
-ghost use Rattle.laying.specs.Parts.{VisitsTwo, tag_walk, two_walks, parts_walk};
+ghost use Rattle.walk.specs.Plan.{Visits};
+ghost use Rattle.laying.specs.Parts.{VisitsTwo, tag_walk, two_walks};
 
 use grammar::kinds;
-use grammar::kinds::{Tagged, Two, cons, dep, or, union};
-use numbers::{except, tuple};
+use grammar::kinds::{Tagged, Two, cons, dep, or};
+use numbers::except;
 use walk::lent::{LENT, PLAN, POOL};
 
 // What a walk hands back: what is left of the room after the case; or, from 2^63 on, the first of 13 and
@@ -31,7 +31,7 @@ fn one(room: usize) -> usize
 }
 
 // A tag cell, then a part.
-#[cycle(both_each_tagged_tally)]
+#[cycle(both_tagged_tally)]
 fn tagged(lent: &[&[u64]; LENT], s: Tagged, left: usize, room: usize) -> usize
     requires visits { Visits (plan_of lent.now) (pool_of lent.now) s.part s.number }
     requires left_bound { (s.number + left ≤ 2 ^ 62 + 200) × (left ≤ 200) × (room ≤ most) }
@@ -44,7 +44,7 @@ fn tagged(lent: &[&[u64]; LENT], s: Tagged, left: usize, room: usize) -> usize
 }
 
 // Two parts at two numbers.
-#[cycle(both_each_tagged_tally)]
+#[cycle(both_tagged_tally)]
 fn both(lent: &[&[u64]; LENT], s: Two, left: usize, room: usize) -> usize
     requires visits_two { VisitsTwo (plan_of lent.now) (pool_of lent.now) s }
     requires left_bound { (s.x + left ≤ 2 ^ 62 + 200) × (s.y + left ≤ 2 ^ 62 + 200) × (left ≤ 200) × (room ≤ most) }
@@ -58,28 +58,8 @@ fn both(lent: &[&[u64]; LENT], s: Two, left: usize, room: usize) -> usize
     tally(lent, s.second, s.y, left, rest)
 }
 
-// The parts of a tuple at their numbers, one after the other.
-#[cycle(both_each_tagged_tally)]
-fn each(lent: &[&[u64]; LENT], a: usize, b: usize, n: u64, left: usize, room: usize) -> usize
-    requires parted { Parted (plan_of lent.now) (pool_of lent.now) a b }
-    requires left_bound { (n + left ≤ 2 ^ 62 + 200) × (left ≤ 200) × (room ≤ most) }
-    ensures { left_of result ≡ tallied room
-        (parts_walk (plan_of lent.now) (pool_of lent.now) left a b n) }
-{
-    let parts = tuple::split(b, n);
-    let pool = lent[POOL];
-    let mut rest = room;
-    for j in 0..b {
-        rest = tally(lent, pool[a + j] as usize, parts[j], left, rest);
-        if TOO_DEEP <= rest {
-            return rest;
-        }
-    }
-    rest
-}
-
 // "visits the node's parts at one depth more": the walk calls itself on parts, and the depth left falls.
-#[cycle(both_each_tagged_tally)]
+#[cycle(both_tagged_tally)]
 pub fn tally(lent: &[&[u64]; LENT], i: usize, n: u64, left: usize, room: usize) -> usize
     requires visits { Visits (plan_of lent.now) (pool_of lent.now) i n }
     requires left_bound { (n + left ≤ 2 ^ 62 + 200) × (left ≤ 200) × (room ≤ most) }
@@ -108,13 +88,6 @@ pub fn tally(lent: &[&[u64]; LENT], i: usize, n: u64, left: usize, room: usize) 
         kinds::EXCEPT => tally(lent, a, except::split(b, n), left - 1, room),
         kinds::FIX => tally(lent, a, n, left - 1, room),
         kinds::AGAIN => tally(lent, a, n, left - 1, room),
-        kinds::TUPLE => each(lent, a, b as usize, n, left - 1, room),
-        kinds::UNION => tagged(
-            lent,
-            union::step(lent[POOL], a, b as usize, n),
-            left - 1,
-            room,
-        ),
         // Not reached: a checked plan has no other kind.
         _ => NO_ROOM,
     }

@@ -2,12 +2,8 @@
 // sight. Each function is the definition of the same name in specs/, on machine words.
 pub mod cons;
 pub mod dep;
-pub mod divided;
 pub mod except;
 pub mod joined;
 pub mod or;
-pub mod power;
 pub mod root;
 pub mod size;
-pub mod tuple;
-pub mod union;

@@ -8,4 +8,3 @@ pub mod Idle
 pub mod Worked
 pub mod WorkedCases
 pub mod WorkedRows
-pub mod WorkedParts

@@ -7,9 +7,6 @@ use mathlib.Core.List.{List, [], ◌∷◌, ◌++◌, map}
 use Prim.Native.Nat.{ℕ, suc, ◌+◌, ◌^◌, ◌≤◌, ◌<◌}
 use lib.ListN.{length, take}
 use Rattle.numbers.specs.Size.{Below, finite}
-use Rattle.numbers.specs.Tuple.{Earlier, split, join}
-use Rattle.numbers.proofs.tuple.SplitJoin as Tuples
-use Rattle.numbers.proofs.tuple.Order as Orders
 use Rattle.grammar.specs.Table.{nodes}
 use Rattle.grammar.specs.Refusals.{number_of}
 use Rattle.grammar.specs.Sizes.{size_at, sizes}
@@ -46,7 +43,6 @@ use Rattle.promises.proofs.Refused.{Because}
 use Rattle.promises.proofs.Refused as Reasons
 use Rattle.promises.proofs.Unique as Unique
 use Rattle.promises.proofs.WorkedRows as Rows
-use Rattle.promises.proofs.WorkedParts as Parts
 use Rattle.promises.proofs.WriteSides as Sides
 
 -- ---- Demand 1. Every table, number and row of cells gets an answer, and a refusal changes no lent cell: one outcome for every input, and a refusal's
@@ -176,20 +172,3 @@ other_cases = Cases.others_worked
 
 rows : map Rows.asked Rows.rows ≡ map Rows.expected Rows.rows
 rows = Rows.worked
-
--- ---- Tuples "in order of their largest part number, and within one largest number in dictionary order": with both inverses that fixes the numbering.
-tuple_order : (xs ys : List ℕ) → length xs ≡ length ys → Earlier xs ys → join xs < join ys
-tuple_order = Orders.join_order
-
-tuple_there : (t n : ℕ) → 0 < t → join (split t n) ≡ n
-tuple_there = Tuples.join_split
-
-tuple_back : (ms : List ℕ) → split (length ms) (join ms) ≡ ms
-tuple_back = Tuples.split_join
-
--- tuples and unions, worked
-part_tables : map Tables.asked Parts.tables ≡ map Tables.expected Parts.tables
-part_tables = Parts.checked
-
-part_cases : map (map Cases.asked) Parts.cases ≡ map (map Cases.expected) Parts.cases
-part_cases = Parts.worked

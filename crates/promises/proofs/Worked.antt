@@ -36,7 +36,7 @@ tables =
     ∷ checks_as (0 ∷ 1 ∷ 0 ∷ 0 ∷ []) [] 1 0
     -- kind and row are tested together
     ∷ checks_as (0 ∷ 0 ∷ 0 ∷ 99 ∷ 0 ∷ 0 ∷ []) [] 5 0
-    ∷ checks_as (12 ∷ 0 ∷ 0 ∷ []) [] 2 0
+    ∷ checks_as (10 ∷ 0 ∷ 0 ∷ []) [] 2 0
     ∷ checks_as (0 ∷ 1 ∷ 1 ∷ []) [] 3 0
     ∷ checks_as (1 ∷ 0 ∷ 0 ∷ 9 ∷ 2 ∷ 0 ∷ 8 ∷ 0 ∷ 9 ∷ []) [] 3 2
     ∷ checks_as (1 ∷ 0 ∷ 0 ∷ 5 ∷ 0 ∷ 1 ∷ []) [] 4 1

@@ -3,5 +3,3 @@ pub mod Or
 pub mod Cons
 pub mod Dep
 pub mod Except
-pub mod Tuple
-pub mod Union

@@ -5,26 +5,22 @@ ghost use Rattle.grammar.specs.kinds.Or.{or as or_kind};
 ghost use Rattle.grammar.specs.kinds.Cons.{cons as cons_kind};
 ghost use Rattle.grammar.specs.kinds.Dep.{dep as dep_kind};
 ghost use Rattle.grammar.specs.kinds.Except.{except as except_kind};
-ghost use Rattle.grammar.specs.kinds.Tuple.{tuple as tuple_kind};
-ghost use Rattle.grammar.specs.kinds.Union.{union as union_kind};
 ghost use Rattle.walk.specs.Run.{run};
-ghost use Rattle.walk.specs.Plan.{Reading, Choosing, Parted};
+ghost use Rattle.walk.specs.Plan.{Reading, Choosing};
 ghost use Rattle.taking.specs.Took.{Taken, TakenBy, Roomy};
 ghost use Rattle.walk.specs.Lent.{pool_of, plan_of};
 
 use super::own::{DEEP, UNFIT, any, counted, listed};
 use grammar::kinds;
-use grammar::kinds::{cons, dep, except, or, union};
-use numbers::joined::{BIG, word};
-use numbers::tuple;
-use numbers::tuple::MOST_PARTS;
+use grammar::kinds::{cons, dep, except, or};
+use numbers::joined::BIG;
 use walk::lent::{LENT, PLAN, POOL};
 
 // An or's tags, 0 and 1.
 const TAGS: u64 = 2;
 
 // or: a tag, and the part that it leads to. 15: "a tag above 1"
-#[cycle(among_both_chosen_each_tagged_take_without)]
+#[cycle(both_chosen_tagged_take_without)]
 fn tagged(
     lent: &[&[u64]; LENT],
     a: usize,
@@ -52,7 +48,7 @@ fn tagged(
 }
 
 // cons: both parts
-#[cycle(among_both_chosen_each_tagged_take_without)]
+#[cycle(both_chosen_tagged_take_without)]
 fn both(
     lent: &[&[u64]; LENT],
     a: usize,
@@ -82,7 +78,7 @@ fn both(
 }
 
 // dep: the first part, and the second that its number chooses. That number is below 256, so never BIG.
-#[cycle(among_both_chosen_each_tagged_take_without)]
+#[cycle(both_chosen_tagged_take_without)]
 fn chosen(
     lent: &[&[u64]; LENT],
     a: usize,
@@ -111,7 +107,7 @@ fn chosen(
 }
 
 // except: a part at another number than b. 15: "the case an except removed (met after its last cell)"
-#[cycle(among_both_chosen_each_tagged_take_without)]
+#[cycle(both_chosen_tagged_take_without)]
 fn without(
     lent: &[&[u64]; LENT],
     a: usize,
@@ -136,67 +132,9 @@ fn without(
     except::join(b, m)
 }
 
-// tuple: each part in turn, the first under the shifts above. A part that is BIG is past every largest part, so the whole is BIG.
-#[cycle(among_both_chosen_each_tagged_take_without)]
-fn each(
-    lent: &[&[u64]; LENT],
-    a: usize,
-    b: usize,
-    row: &&[u64],
-    left: usize,
-    off: u64,
-    at: &mut usize,
-) -> u64
-    requires parted { Parted (plan_of lent.now) (pool_of lent.now) a b }
-    requires roomy { Roomy left off at.old row.now.now }
-    ensures { TakenBy tuple_kind (plan_of lent.now) (pool_of lent.now) a b left off
-        row.now.now at.old at.new result }
-{
-    let pool = lent[POOL];
-    let mut numbers = [0u64; MOST_PARTS];
-    let mut under = off;
-    for j in 0..b {
-        let m = take(lent, pool[a + j] as usize, row, left, under, at);
-        if BIG < m {
-            return m;
-        }
-        numbers[j] = m;
-        under = 0;
-    }
-    word(tuple::join(&numbers, b))
-}
-
-// union: a tag, and the part at its place. "A read tag of k or more is 15."
-#[cycle(among_both_chosen_each_tagged_take_without)]
-fn among(
-    lent: &[&[u64]; LENT],
-    a: usize,
-    b: usize,
-    row: &&[u64],
-    left: usize,
-    off: u64,
-    at: &mut usize,
-) -> u64
-    requires parted { Parted (plan_of lent.now) (pool_of lent.now) a b }
-    requires roomy { Roomy left off at.old row.now.now }
-    ensures { TakenBy union_kind (plan_of lent.now) (pool_of lent.now) a b left off
-        row.now.now at.old at.new result }
-{
-    let tag = counted(b as u64, row, off, at);
-    if b as u64 <= tag {
-        return tag;
-    }
-    let pool = lent[POOL];
-    let m = take(lent, pool[a + tag as usize] as usize, row, left, 0, at);
-    if BIG <= m {
-        return m;
-    }
-    union::join(b, tag, m)
-}
-
 // "Reading walks the same nodes from cells": the walk calls itself on parts, and the depth left falls.
 // `off` is what the shifts above take off the first cell.
-#[cycle(among_both_chosen_each_tagged_take_without)]
+#[cycle(both_chosen_tagged_take_without)]
 pub fn take(
     lent: &[&[u64]; LENT],
     i: usize,
@@ -228,8 +166,6 @@ pub fn take(
         kinds::EXCEPT => without(lent, a, b, row, left - 1, off, at),
         kinds::FIX => take(lent, a, row, left - 1, off, at),
         kinds::AGAIN => take(lent, a, row, left - 1, off, at),
-        kinds::TUPLE => each(lent, a, b as usize, row, left - 1, off, at),
-        kinds::UNION => among(lent, a, b as usize, row, left - 1, off, at),
         // Not reached: a checked plan has no other kind.
         _ => UNFIT,
     }

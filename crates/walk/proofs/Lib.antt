@@ -7,6 +7,5 @@ pub mod Rooms
 pub mod Visit
 pub mod Nodes
 pub mod Choosing
-pub mod Parted
 pub mod Plans
 pub mod Opened

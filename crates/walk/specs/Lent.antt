@@ -5,10 +5,9 @@
 use Rattle.std.specs.Prelude.{List, [], ℕ, get_or}
 use Rattle.std.specs.Borrow.{Bor}
 
-abbrev Lent : Type 0
+abbrev pub Lent : Type 0
 Lent = List (Bor (List ℕ))
 
--- past the array's end stands what the borrow checker has there: so `lent[PLAN]` of the code and `plan_of` are one term
 abbrev lent_at : ℕ → Lent → List ℕ
 lent_at k g = (get_or g k (record { ref_ptr = (0, 0); now = [] })).now
 

@@ -3,11 +3,10 @@
 --   Reading    a node of it
 --   Visits     and a number below its size
 --   Choosing   a dep's first part and its seconds
---   Parted     the parts of a tuple or a union
 --   Raised     what the shifts above a node may add to its first cell
 -- Assumes nothing.
 use Rattle.std.specs.Prelude.{◌≡◌, true, ◌||◌, ◌⊎◌, List, ℕ, ◌+◌, ◌*◌, ◌≤◌, ◌<◌, length, get_or, take, drop}
-use Rattle.numbers.specs.Size.{endless, Below, Some}
+use Rattle.numbers.specs.Size.{Below, Some}
 use Rattle.grammar.specs.Law.{Good, Holds}
 use Rattle.grammar.specs.Kind.{before}
 use Rattle.grammar.specs.kinds.{kind_in}
@@ -41,15 +40,6 @@ pub record Choosing (plan p : List ℕ) (a b : ℕ) : Type 0 where
   pub few : firsts plan a ≤ 256
   pub alike : (all_finite (size_in plan) (take (firsts plan a) (drop b p)) || all_endless (size_in plan) (take (firsts plan a) (drop b p))) ≡ true
   pub seconds : (x : ℕ) → x < firsts plan a → Reading plan p (get_or p (b + x) 0)
-
--- of its words a and b: "count outside 3 to 8 or past the pool 5, part not lower 4, part finite 7"
-pub record Parted (plan p : List ℕ) (a b : ℕ) : Type 0 where
-  pub three : 3 ≤ b
-  pub eight : b ≤ 8
-  pub inside : a + b ≤ length p
-  pub slight : length p ≤ 4096
-  pub parts : (j : ℕ) → j < b → Reading plan p (get_or p (a + j) 0)
-  pub endless : (j : ℕ) → j < b → size_in plan (get_or p (a + j) 0) ≡ endless
 
 -- nothing, or the node is "of kind 0, 1 or 3": no other stands under a shift
 pub record Raised (plan : List ℕ) (i up : ℕ) : Type 0 where

@@ -26,13 +26,13 @@ use Rattle.taking.specs.Took.{Taken, TakenBy}
 use Rattle.taking.proofs.Takes.{tag_stops, tag_then, last_stays, last_number}
 
 -- what parts read does not matter to a tag
-pub tag_inside : (k off : ℕ) {row : List ℕ} {at e x : ℕ} → ((go : ℕ → ℕ → ℕ → List ℕ → Read) → Taken limit (follow go off (below_rule k).tree) row at e x)
+pub tag_inside : (off : ℕ) {row : List ℕ} {at e x : ℕ} → ((go : ℕ → ℕ → ℕ → List ℕ → Read) → Taken limit (follow go off (below_rule 2).tree) row at e x)
     → x ≤ 2 ^ 63 → e ≤ length row
-tag_inside k off h l = (h (λ o i q cs. wrong NotACase)).inside l
+tag_inside off h l = (h (λ o i q cs. wrong NotACase)).inside l
 
 -- a word that is no tag says why
-pub tag_none : (k x : ℕ) → (x ≤ 2 ^ 63 → x < k) → k ≤ x → 2 ^ 63 < x
-tag_none k x f l = ⊎_elim (λ h. absurd (omega (arith, f h))) (λ h. h) (le_or_lt x (2 ^ 63))
+pub tag_none : (x : ℕ) → (x ≤ 2 ^ 63 → x < 2) → 2 ≤ x → 2 ^ 63 < x
+tag_none x f l = ⊎_elim (λ h. absurd (omega (arith, f h))) (λ h. h) (le_or_lt x (2 ^ 63))
 
 module _ (plan p : List ℕ) (a b left off : ℕ) {row : List ℕ} {at e x : ℕ}
     (h : (go : ℕ → ℕ → ℕ → List ℕ → Read) → Taken limit (follow go off (below_rule 2).tree) row at e x) where

@@ -1,9 +1,7 @@
 -- `grammar::kinds::row` asks the kind of a node.
 -- Assumes nothing.
 use borrow.Author.Rules.{rules}
-use Rattle.grammar.specs.Plan.{size_in, weighed}
-use Rattle.grammar.specs.kinds.Tuple.{tuple_rule}
-use Rattle.grammar.specs.kinds.Union.{union_rule}
+use Rattle.grammar.specs.Plan.{size_in}
 use Rattle.grammar.proofs.KindWords.{by_word, not_known}
 use Rattle.grammar.proofs.kinds.row.Statement.{statement}
 use Rattle.grammar.proofs.kinds.row.Tie as tie
@@ -12,8 +10,6 @@ pub row_spec : {M : Type 1} → statement M
 row_spec =
     tie.close
     (tie.spec
-    (λ c κs. search rules)
-    (λ c κs. search rules)
     (λ c κs. search rules)
     (λ c κs. search rules)
     (λ c κs. search rules)
@@ -44,8 +40,4 @@ row_spec =
     by_word _ _ _ 8 c.before.match.keys9 (c.check9.ensures x.table.now x.pool.now x.b))
     (λ c. let x = c.before.before.before.before.before.args in
     by_word _ _ _ 9 c.before.match.keys10 (c.check10.ensures x.pool.now x.b (size_in x.plan.now)))
-    (λ c. let x = c.before.before.before.before.before.args in
-    by_word _ _ _ 10 c.before.match.keys11 (unfold weighed tuple_rule in c.check11.ensures x.table.now))
-    (λ c. let x = c.before.before.before.before.before.args in
-    by_word _ _ _ 11 c.before.match.keys12 (unfold weighed union_rule in c.check12.ensures x.table.now))
     (λ c. not_known c.before.before.before.before.args.kind _ _ c.match.rest))

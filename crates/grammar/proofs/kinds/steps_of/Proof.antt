@@ -3,7 +3,7 @@
 use borrow.Author.Rules.{rules}
 use native.Mathlib.Omega.{arith}
 use Rattle.grammar.proofs.laws.{rules}
-use Rattle.grammar.proofs.KindSteps.{names_as, steps_by, unknown_steps, dep_first, dep_count, dep_run, dep_steps, tuple_run, union_run}
+use Rattle.grammar.proofs.KindSteps.{names_as, steps_by, unknown_steps, dep_first, dep_count, dep_run, dep_steps}
 use Rattle.grammar.proofs.kinds.steps_of.Statement.{statement}
 use Rattle.grammar.proofs.kinds.steps_of.Tie as tie
 
@@ -35,8 +35,6 @@ steps_of_spec =
     (λ c κs. search rules)
     (λ c κs. search rules)
     (λ c κs. search rules)
-    (λ c κs. search rules)
-    (λ c κs. search rules)
     (λ c. names_as (steps_by _ _ _ _ _ c.before.match.keys1) (c.none.ensures _))
     (λ c. names_as (steps_by _ _ _ _ _ c.before.match.keys2) (c.none2.ensures _))
     (λ c. names_as (steps_by _ _ _ _ _ c.before.match.keys3) (c.none3.ensures _))
@@ -49,8 +47,4 @@ steps_of_spec =
     (λ c. names_as (steps_by _ _ _ _ _ c.before.match.keys8) (c.one2.ensures _))
     (λ c. names_as (steps_by _ _ _ _ _ c.before.match.keys9) (c.one3.ensures _))
     (λ c. names_as (steps_by _ _ _ _ _ c.before.match.keys10) (c.one4.ensures _))
-    (λ c. let at_pre = c.before.before.before.before.before.before.before.before in let e = c.before.match.keys11 in
-    names_as (steps_by _ _ _ _ _ e) (c.run.ensures _ (tuple_run at_pre.pre.0 at_pre.pre.1 e).inside))
-    (λ c. let at_pre = c.before.before.before.before.before.before.before.before in let e = c.before.match.keys12 in
-    let s = union_run at_pre.pre.0 at_pre.pre.1 e in names_as (steps_by _ _ _ _ _ e) (c.steps3.ensures _ (omega (arith, s.three)) s.inside))
     (λ c. names_as (unknown_steps _ _ _ _ _ c.before.match.rest) (c.none4.ensures _)))

@@ -5,17 +5,16 @@ use mathlib.Core.Bool.{false≢true}
 use Prim.Native.Nat.{◌+◌, ◌-◌, ◌≤◌}
 use native.Mathlib.Omega.{arith}
 use borrow.Author.Tests.{leb-true}
-use Rattle.walk.proofs.Nodes.{in_plan, reads_at}
 use Rattle.laying.specs.Sure.{Widths}
 use Rattle.laying.proofs.Sures.{widths_none, widths_more, sure_by}
 use Rattle.laying.proofs.sure.sure.Statement.{statement}
 use Rattle.laying.proofs.sure.sure.Tie as tie
 
 abbrev invariant-loop : tie.invariant-loop
-invariant-loop pool plan i room kind widths₀ k₀ k-end widths k = Widths plan pool widths k × (k ≤ i + 1)
+invariant-loop plan i room kind widths₀ k₀ k-end widths k = Widths plan widths k × (k ≤ i + 1)
 
 abbrev decreases-loop : tie.decreases-loop
-decreases-loop pool plan i room kind widths₀ k₀ k-end widths k = i + 1 - k
+decreases-loop plan i room kind widths₀ k₀ k-end widths k = i + 1 - k
 
 pub sure_spec : {M : Type 1} → statement M
 sure_spec =
@@ -26,22 +25,18 @@ sure_spec =
     (λ c. λ e. absurd (false≢true e))
     (λ c. omega arith)
     (λ c. omega arith)
-    (λ c. let at_pre = c.before.before.before.before in omega (arith, in_plan at_pre.requires))
+    (λ c. omega (arith, c.before.before.before.requires))
     (λ c. λ e. absurd (false≢true e))
     (λ c. λ e. absurd (false≢true e))
     (λ c. omega arith)
-    (λ c. (widths_none _ _, omega arith))
-    (λ c κs. let at-loop = c.before.before in let at_pre = at-loop.before.before.before.before.before.before.before in (
-      reads_at at_pre.requires _
-          (omega (arith, at_pre.requires.node, c.before.loop-test.true)),
-      at-loop.loop.invariant.0,
-    ))
+    (λ c. (widths_none _, omega arith))
+    (λ c κs. (omega (arith, c.before.before.before.before.before.before.before.before.requires), c.before.before.loop.invariant.0))
     (λ c. omega arith)
     (λ c. omega arith)
     (λ c. omega arith)
     (λ c. omega arith)
-    (λ c. let at-loop = c.before.before.before in (widths_more at-loop.loop.invariant.0 (omega arith) c.width_of_lem.ensures, omega arith))
+    (λ c. (widths_more c.before.before.before.loop.invariant.0 (omega arith) c.width_of_lem.ensures, omega arith))
     (λ c. omega arith)
     (λ c. omega arith)
     (λ c. λ e. absurd (false≢true e))
-    (λ c. let at-loop = c.before.before in λ e. sure_by at-loop.loop.invariant.0 (omega arith) (omega arith) refl c.if4.false (leb-true _ _ e)))
+    (λ c. λ e. sure_by c.before.before.loop.invariant.0 (omega arith) (omega arith) refl c.if4.false (leb-true _ _ e)))

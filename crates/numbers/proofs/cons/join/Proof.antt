@@ -32,7 +32,7 @@ join_spec =
     (λ c κs. search rules)
     (λ c. second _ _ _ _ _ c.before.if2.true c.before.before.if1.true c.product-and.ensures)
     (λ c κs. search rules)
-    (λ c. square _ _ _ _ _ (omega arith) c.before.if2.false c.join_square.ensures)
+    (λ c. square _ _ _ _ _ (omega arith) c.before.if2.false c.join-square.ensures)
     (λ c κs. search rules)
     (λ c. first _ _ _ _ _ c.before.if3.true c.before.before.if1.false c.product-and2.ensures)
     (λ c κs. search rules)

@@ -32,7 +32,7 @@ split_spec =
     (λ c. search rules)
     (λ c. first _ _ _ (omega arith) (omega arith))
     (λ c κs. search rules)
-    (λ c. square _ _ _ _ c.before.if2.false (omega arith) c.split_square.ensures)
+    (λ c. square _ _ _ _ c.before.if2.false (omega arith) c.split-square.ensures)
     (λ c. search rules)
     (λ c. search rules)
     (λ c. second _ _ _ c.if3.true c.before.if1.false)

@@ -1,13 +1,15 @@
 -- `numbers::root::guess` is a word's root or less, and not 0: the shifts are within a word since n is not 0.
 -- Assumes nothing.
 use borrow.Author.Rules.{rules}
-use Prim.Native.Nat.{ℕ, ◌*◌, ◌/◌, ◌%◌, ◌^◌, ◌≤◌}
+use Prim.Native.Nat.{ℕ, ◌*◌, ◌/◌, ◌%◌, ◌^◌, ◌≤◌, ◌<◌}
 use native.Mathlib.Nat.{div-le_self}
 use native.Mathlib.Omega.{arith}
-use lib.Count.{count_leading_zeros}
-use Rattle.numbers.proofs.Words.{zeros}
+use lib.Count.{count_leading_zeros, leading_top}
 use Rattle.numbers.proofs.root.guess.Statement.{statement}
 use Rattle.numbers.proofs.root.guess.Tie as tie
+
+zeros : (n : ℕ) → 0 < n → n < 2 ^ 64 → count_leading_zeros 64 n ≤ 63
+zeros n p h = omega (arith, (leading_top 64 n p h).1)
 
 quotient : (b k : ℕ) → b * 2 ^ 16 % 2 ^ 64 / 2 ^ k ≤ b * 2 ^ 16 % 2 ^ 64
 quotient b k = div-le_self (b * 2 ^ 16 % 2 ^ 64) (2 ^ k)

@@ -1,11 +1,12 @@
--- `laying::lay::lay` is the writing walk over a buffer that is its own room; `tagged` a tag and a part, `both` two parts, `each` a tuple's.
--- `Claims` has the measures: twice the depth left, and one more for those three. Each arm is one law of its shape, at its kind's items.
+-- `laying::lay::lay` is the writing walk over a buffer that is its own room; `tagged` a tag and a part, `both` two parts.
+-- The measure is twice the depth left, and one more for those two. Each arm is one law of its shape, at its kind's items.
 -- Assumes nothing.
-mod Claims
-use mathlib.Core.Path.{refl}
-use Prim.Native.Nat.{ℕ}
+use mathlib.Core.Path.{refl, ◌∙◌}
+use Prim.Native.Nat.{ℕ, ◌+◌, ◌*◌, ◌<◌}
 use native.Mathlib.Omega.{arith}
 use borrow.Author.Rules.{rules}
+use borrow.Fn.Kinds.{In}
+use borrow.Fn.PlainCycle.{Measures, is, falls, and}
 use lib.ListN.{length-set}
 use Rattle.walk.proofs.Rooms.{tallied_deep, left_within}
 use Rattle.laying.proofs.Lays.{lent_most, lent_set, laid_deep, laid_none, laid_stops, laid_two, laid_tag}
@@ -14,49 +15,91 @@ use Rattle.numbers.specs.Size.{endless}
 use Rattle.grammar.proofs.laws.{rules}
 use Rattle.grammar.proofs.laws.Pool.{pool_in, pool_at}
 use Rattle.grammar.proofs.laws.Shift.{shift_small, shift_bare}
-use Rattle.walk.proofs.Nodes.{in_plan, known, items_by, below_by, checks_by, checked_by, parts_by, part_at, two_in, two_some}
-use Rattle.walk.proofs.Nodes.{raised_none, raised_bare, raised_zero}
+use Rattle.walk.proofs.Nodes.{in_plan, known, items_by, below_by, checked_by, parts_by, part_at, two_in, two_some, raised_none, raised_bare, raised_zero}
 use Rattle.walk.proofs.Choosing.{choosing, dep_items, dep_low}
-use Rattle.walk.proofs.Parted.{parted}
-use Rattle.laying.proofs.Calls.{laid_by, lay_part, lay_shift, to_tagged, to_both, to_each}
-use Rattle.laying.proofs.Eachs.{each_place, each_next, walk_each, written_none, written_room, written_next, written_stops, written_all}
-use Rattle.laying.proofs.lay.+both_each_lay_tagged.Proof.Claims.{μ_both, μ_each, μ_lay, μ_tagged, both_at, each_at, lay_at, tagged_at, lay_below}
-use Rattle.laying.proofs.lay.+both_each_lay_tagged.Proof.Claims.{calls, each_calls, InvLoop, μ_loop}
+use Rattle.laying.proofs.Calls.{laid_by, lay_part, lay_shift, to_tagged, to_both}
 use Rattle.laying.proofs.lay.both.Reads as both
-use Rattle.laying.proofs.lay.+both_each_lay_tagged.Lts-both as both-lts
-use Rattle.laying.proofs.lay.each.Reads as each
-use Rattle.laying.proofs.lay.+both_each_lay_tagged.Lts-each as each-lts
+use Rattle.laying.proofs.lay.both.Kinds as both-kinds
+use Rattle.laying.proofs.lay.+both_lay_tagged.Lts-both as both-lts
 use Rattle.laying.proofs.lay.lay.Reads as lay
-use Rattle.laying.proofs.lay.+both_each_lay_tagged.Lts-lay as lay-lts
+use Rattle.laying.proofs.lay.lay.Kinds as lay-kinds
+use Rattle.laying.proofs.lay.+both_lay_tagged.Lts-lay as lay-lts
 use Rattle.laying.proofs.lay.tagged.Reads as tagged
-use Rattle.laying.proofs.lay.+both_each_lay_tagged.Lts-tagged as tagged-lts
-use Rattle.laying.proofs.lay.+both_each_lay_tagged.{statement}
-use Rattle.laying.proofs.lay.+both_each_lay_tagged.Tie.{close}
+use Rattle.laying.proofs.lay.tagged.Kinds as tagged-kinds
+use Rattle.laying.proofs.lay.+both_lay_tagged.Lts-tagged as tagged-lts
+use Rattle.grammar.proofs.kinds.cons.step.Reads as cons-step
+use Rattle.grammar.proofs.kinds.dep.step.Reads as dep-step
+use Rattle.grammar.proofs.kinds.or.step.Reads as or_step
+use Rattle.grammar.proofs.kinds.pool.step.Reads as pool-step
+use Rattle.numbers.proofs.except.split.Reads as except-split
+use Rattle.laying.proofs.lay.put.Reads as put
+use Rattle.laying.proofs.lay.+both_lay_tagged.{statement}
+use Rattle.laying.proofs.lay.+both_lay_tagged.Tie.{close}
+
+abbrev μ_both : Measures 3 both-kinds.ps ℕ
+μ_both κs a = 2 * a.1.1.0 + 1
+
+abbrev μ_lay : Measures 3 lay-kinds.ps ℕ
+μ_lay κs a = 2 * a.1.1.1.1.0
+
+abbrev μ_tagged : Measures 3 tagged-kinds.ps ℕ
+μ_tagged κs a = 2 * a.1.1.0 + 1
 
 module _ (t : ℕ) where
+  abbrev both_at : In 3 both-kinds.ps
+  both_at = and 3 both-kinds.ps (is 3 both-kinds.ps μ_both t) both.Pre
+
+  abbrev both_below : In 3 both-kinds.ps
+  both_below = and 3 both-kinds.ps (falls 3 both-kinds.ps ◌<◌ μ_both t) both.Pre
+
+  abbrev tagged_at : In 3 tagged-kinds.ps
+  tagged_at = and 3 tagged-kinds.ps (is 3 tagged-kinds.ps μ_tagged t) tagged.Pre
+
+  abbrev tagged_below : In 3 tagged-kinds.ps
+  tagged_below = and 3 tagged-kinds.ps (falls 3 tagged-kinds.ps ◌<◌ μ_tagged t) tagged.Pre
+
+  abbrev lay_at : In 3 lay-kinds.ps
+  lay_at = and 3 lay-kinds.ps (is 3 lay-kinds.ps μ_lay t) lay.Pre
+
+  abbrev lay_below : In 3 lay-kinds.ps
+  lay_below = and 3 lay-kinds.ps (falls 3 lay-kinds.ps ◌<◌ μ_lay t) lay.Pre
+
+  abbrev calls : lay-lts.Claims
+  calls = (
+    put.Asked,
+    put.Learnt,
+    pool-step.Asked,
+    pool-step.Learnt,
+    lay_below,
+    lay.Post,
+    or_step.Asked,
+    or_step.Learnt,
+    tagged_below,
+    tagged.Post,
+    cons-step.Asked,
+    cons-step.Learnt,
+    both_below,
+    both.Post,
+    dep-step.Asked,
+    dep-step.Learnt,
+    except-split.Asked,
+    except-split.Learnt,
+  )
+
   -- the first part's walk, and then the second's over what is left; and a tag, and then a part's
-  both_two : both-lts.Need-returns-2 (lay_below t, lay.Post) (both_at t) both.Post
+  both_two : both-lts.Need-returns-2 (lay_below, lay.Post) both_at both.Post
   both_two c =
       let h = c.before.before.before.before in
       laid_two h.before.before.before.lay.ensures h.if1.left refl c.before.before.lay2.ensures refl
 
-  tagged_one : tagged-lts.Need-returns-2 (lay_below t, lay.Post) (tagged_at t) tagged.Post
+  tagged_one : tagged-lts.Need-returns-2 (lay_below, lay.Post) tagged_at tagged.Post
   tagged_one c =
       let h = c.before.before.before.before in
       laid_tag _ _ h.if1.left h.before.before.pre.1.1.2 c.before.before.lay.ensures refl
 
-  -- a part that stops, after those before it
-  each_stops : each-lts.Need-returns (each_calls t) (each_at t) each.Post InvLoop μ_loop
-  each_stops c =
-      let at_test = c.before.before.before.before.before.before in
-      let at_split = at_test.before.before.before in
-      let p = at_split.before.before.pre.1 in
-      written_stops p.0 at_split.split.ensures at_test.before.loop.inv p.1.2 at_test.loop-test.taken refl refl
-      c.before.before.before.lay.ensures c.if1.taken
-
-pub +both-each-lay-tagged-spec : {M : Type 1} → statement M
+pub +both-lay-tagged-spec : {M : Type 1} → statement M
 unfolding rules
-+both-each-lay-tagged-spec = close μ_both μ_each μ_lay μ_tagged
++both-lay-tagged-spec = close μ_both μ_lay μ_tagged
     (λ t. both-lts.spec (lay_below t, lay.Post) (both_at t) both.Post
     (λ c κs. let at_pre = c.before.before in let p = at_pre.pre in (
       omega (arith, p.0),
@@ -92,54 +135,6 @@ unfolding rules
     ))
     (λ c. (both_two t c).long)
     (λ c. both_two t c))
-    (λ t. each-lts.spec (each_calls t) (each_at t) each.Post InvLoop μ_loop
-    (λ c κs. let p = c.before.pre.1 in (p.0.three, p.0.eight, omega (arith, p.1.0)))
-    (λ c. search rules)
-    (λ c. let at_pre = c.before.before.before in written_none at_pre.pre.1.1.2)
-    (λ c. let at_pre = c.before.before.before.before.before in omega (arith, written_room c.before.loop.inv at_pre.pre.1.1.2))
-    (λ c. let at_pre = c.before.before.before.before.before in omega (arith, each_place at_pre.pre.1.0 c.loop-test.taken))
-    (λ c. let at_pre = c.before.before.before.before.before in omega (arith, each_place at_pre.pre.1.0 c.loop-test.taken))
-    (λ c. let at_pre = c.before.before.before.before.before.before in omega (arith, each_place at_pre.pre.1.0 c.before.loop-test.taken))
-    (λ c. let at_pre = c.before.before.before.before.before.before in omega (arith, each_place at_pre.pre.1.0 c.before.loop-test.taken))
-    (λ c. let at_pre = c.before.before.before.before.before.before in omega (arith, each_place at_pre.pre.1.0 c.before.loop-test.taken))
-    (λ c. let at-loop = c.before.before in let at_pre = at-loop.before.before.before.before in omega (
-      arith,
-      written_room at-loop.loop.inv
-          at_pre.pre.1.1.2,
-    ))
-    (λ c. let at-loop = c.before.before in let at_pre = at-loop.before.before.before.before in omega (
-      arith,
-      written_room at-loop.loop.inv
-          at_pre.pre.1.1.2,
-    ))
-    (λ c. let at-loop = c.before.before in let at_pre = at-loop.before.before.before.before in omega (
-      arith,
-      written_room at-loop.loop.inv
-          at_pre.pre.1.1.2,
-    ))
-    (λ c. let at-loop = c.before.before in let at_pre = at-loop.before.before.before.before in omega (
-      arith,
-      written_room at-loop.loop.inv
-          at_pre.pre.1.1.2,
-    ))
-    (λ c κs. let at-loop-test = c.before.before in let at-loop = at-loop-test.before in let at_split = at-loop.before.before in let at_pre =
-    at_split.before.before in let p = at_pre.pre in let x = each_next p.1.0 at_split.split.ensures _ at-loop-test.loop-test.taken in (
-      omega (arith, p.0),
-      (
-        (x.0, raised_zero _ _),
-        (omega (arith, x.1, p.1.1.0), omega (arith, p.1.1.1), p.1.1.1, lent_most _ at-loop.loop.inv.laid p.1.1.2),
-      ),
-    ))
-    (λ c. (each_stops t c).long)
-    (λ c. each_stops t c)
-    (λ c. let at-loop-test = c.before.before.before.before.before.before in let at_pre = at-loop-test.before.before.before.before.before in omega
-    (arith, each_place at_pre.pre.1.0 at-loop-test.loop-test.taken))
-    (λ c. let at-loop-test = c.before.before.before.before.before.before in omega (arith, at-loop-test.loop-test.taken))
-    (λ c. let at-lay = c.before.before.before in let at-loop-test = at-lay.before.before.before in let at-loop = at-loop-test.before in let at_split =
-    at-loop.before.before in let at_pre = at_split.before.before in let p = at_pre.pre.1 in written_next p.0 at_split.split.ensures
-    at-loop.loop.inv p.1.2 at-loop-test.loop-test.taken refl refl at-lay.lay.ensures c.if1.left)
-    (λ c. c.before.loop.inv.laid.long)
-    (λ c. let at_pre = c.before.before.before.before.before in written_all at_pre.pre.1.0 c.before.loop.inv c.loop-test.left))
     (λ t. lay-lts.spec (calls t) (lay_at t) lay.Post
     (λ c. laid_by (walk_deep _ _ _ _ c.if1.taken) (laid_deep refl (tallied_deep _)))
     (λ c. search rules)
@@ -201,17 +196,6 @@ unfolding rules
     (λ c. search rules)
     (λ c κs. let at-if1 = c.before.before.before.before.before.before in let at_pre = at-if1.before.before in let v = at_pre.pre.1.0.0 in lay_part
     _ at_pre.pre.0 at-if1.if1.left at_pre.pre.1.1 (next_by v (items_by v c.before.match.keys10 refl)).0)
-    (λ c. search rules)
-    (λ c κs. let at-if1 = c.before.before.before.before.before.before in let at_pre = at-if1.before.before in let v = visited at_pre.pre.1.0.0
-    in let near = at_pre.pre.1.1 in
-    to_each _ at_pre.pre.0 at-if1.if1.left (near.0, near.2, near.3) (parted v (checks_by v c.before.match.keys11)))
-    (λ c. search rules)
-    (λ c κs. let at_pre = c.before.before.before.before.before.before.before.before in let v = visited at_pre.pre.1.0.0 in let d = parted v
-    (checks_by v c.before.match.keys12) in (omega (arith, d.three), d.inside))
-    (λ c. search rules)
-    (λ c κs. let at-match = c.before.before.before in let at-if1 = at-match.before.before.before.before.before in let at_pre = at-if1.before.before
-    in let v = at_pre.pre.1.0.0 in let near = at_pre.pre.1.1 in to_tagged at_pre.pre.0 at-if1.if1.left (near.0, near.2, near.3)
-    (next_by v (items_by v at-match.match.keys12 c.before.step5.ensures)).0)
     (λ c. let at-put = c.before.before in at-put.put.ensures.long)
     (λ c. let at-put = c.before.before in let at-match = at-put.before.before in let at-if1 = at-match.before.before.before.before.before in let
     at_pre = at-if1.before.before in laid_by (walk_cell _ _ _ _ at-if1.if1.left (items_by at_pre.pre.1.0.0 at-match.match.keys1 refl) refl)
@@ -258,16 +242,6 @@ unfolding rules
     (λ c. let at-lay4 = c.before.before in let at-match = at-lay4.before.before in let at-if1 = at-match.before.before.before.before.before in let
     at_pre = at-if1.before.before in laid_by (walk_same _ _ _ _ at-if1.if1.left (items_by at_pre.pre.1.0.0 at-match.match.keys10 refl)
     (raised_none at_pre.pre.1.0.1 at-match.match.keys10 refl)) at-lay4.lay4.ensures)
-    (λ c. let at_each = c.before.before in at_each.each.ensures.long)
-    (λ c. let at_each = c.before.before in let at-match = at_each.before.before in let at-if1 = at-match.before.before.before.before.before in
-    let at_pre = at-if1.before.before in laid_by (walk_each _ _ _ _ at-if1.if1.left (items_by at_pre.pre.1.0.0 at-match.match.keys11 refl)
-    (raised_none at_pre.pre.1.0.1 at-match.match.keys11 refl))
-    at_each.each.ensures)
-    (λ c. let at-tagged2 = c.before.before in at-tagged2.tagged2.ensures.long)
-    (λ c. let at-tagged2 = c.before.before in let at-step5 = at-tagged2.before.before in let at-match = at-step5.before.before in let at-if1 =
-    at-match.before.before.before.before.before in let at_pre = at-if1.before.before in laid_by (walk_tag _ _ _ _ at-if1.if1.left (items_by
-    at_pre.pre.1.0.0 at-match.match.keys12 at-step5.step5.ensures)
-    (raised_none at_pre.pre.1.0.1 at-match.match.keys12 refl)) at-tagged2.tagged2.ensures)
     (λ c. let at_pre = c.before.before.before.before.before.before.before in absurd (known (visited at_pre.pre.1.0.0) c.match.rest)))
     (λ t. tagged-lts.spec (lay_below t, lay.Post) (tagged_at t) tagged.Post
     (λ c. laid_none _ _ c.if1.taken)
