@@ -1,14 +1,18 @@
 // The rules of `numbers` at the numbers that documents 01, 000 and 001 print, and at the edges of a
 // word. Each line has a rule, the sizes or the removed number, a number, and what it is split into
 // or joined to.
+#![tactic(auto)]
+
 ghost use Rattle.std.specs.Prelude.{◌<◌, ◌≤◌, ◌^◌};
 ghost use Rattle.numbers.specs.Joined.{limit};
 
-use libc::STDOUT_FILENO;
 use numbers::joined::Joined;
 use numbers::or::Part;
 use numbers::size::{ENDLESS, Measured};
 use numbers::{cons, except, or, root, size};
+
+// Standard output's number, as the system has it.
+const STDOUT_FILENO: i32 = 1;
 
 fn say(text: &[u8]) {
     io::write_all(STDOUT_FILENO, text);

@@ -1,12 +1,17 @@
 // The workloads of bench/, over the proved library. Each line of standard input has a workload and how often it is done;
 // a sum of all its answers is printed. A workload is ten times the number of a grammar and the number of a task.
+#![tactic(auto)]
+
 mod row;
 mod single;
 
 use bench_tables::draw::mixed_all;
 use bench_tables::tables::{MOST_POOL_WORDS, MOST_TABLE_WORDS, Shape, laid_out};
-use libc::{STDIN_FILENO, STDOUT_FILENO};
 use texts::line::{Line, numbers_at};
+
+// The streams' numbers, as the system has them.
+const STDIN_FILENO: i32 = 0;
+const STDOUT_FILENO: i32 = 1;
 
 const MOST_CELLS: usize = 65536;
 

@@ -1,5 +1,7 @@
 // Every public call from a shell: the lines of an input, and what each call prints. Nothing is
 // decided here: words are lent, a call is made, and what came back is printed.
+#![tactic(auto)]
+
 mod calls;
 mod line;
 mod state;

@@ -1,4 +1,6 @@
 // The public calls on one case. No call relies on an earlier check: each checks its table first.
+#![tactic(auto)]
+
 mod reading;
 mod writing;
 

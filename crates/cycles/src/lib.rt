@@ -1,5 +1,7 @@
 // Cycles of a checked table: refusals 9 and 10. All steps lead to lower nodes but those of again,
 // so the lowest node of any cycle is an again, and a table without one has no cycle.
+#![tactic(auto)]
+
 mod safety;
 mod search;
 

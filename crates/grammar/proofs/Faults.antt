@@ -5,7 +5,7 @@
 --   first_of, scan_by   the scan finds a fault exactly where there is a first one
 -- Assumes nothing.
 use mathlib.Core.Path.{◌≡◌, refl, sym, ap, ◌∙◌}
-use mathlib.Core.Bool.{Bool, true, false, ◌&&◌}
+use mathlib.Core.Bool.{true, false, ◌&&◌}
 use mathlib.Core.Logic.{⊎_elim}
 use mathlib.Core.List.{List, [], ◌∷◌, ◌++◌}
 use Prim.Native.Nat.{ℕ, zero, suc, ◌≤◌, ◌<◌}
@@ -18,11 +18,11 @@ use borrow.Author.Tests.{leb-true}
 use Rattle.numbers.specs.Size.{Size, finite}
 use Rattle.numbers.proofs.Tests.{and_left, and_right}
 use Rattle.lists.proofs.Order.{same?}
-use Rattle.grammar.specs.Table.{kind_of, a_of, b_of, nodes}
+use Rattle.grammar.specs.Table.{kind_of, nodes}
 use Rattle.grammar.specs.Checks.{Check, asks, Row, fault, sized, row}
 use Rattle.grammar.specs.Refusals.{number_of}
-use Rattle.grammar.specs.Kind.{before, spare}
-use Rattle.grammar.specs.kinds.{kinds, unknown, kind_in}
+use Rattle.grammar.specs.Kind.{before}
+use Rattle.grammar.specs.kinds.{kinds, unknown}
 use Rattle.grammar.specs.Nodes.{node_at, row_at}
 use Rattle.grammar.specs.Sizes.{Scan, passed, faulty, size_at, noted, onward, scan}
 use Rattle.grammar.specs.declared.refusal.Refusal.{Refusal}

@@ -37,10 +37,13 @@ unfolding marked
 marked_keeps m [] k h = h
 marked_keeps m (x ∷ xs) k h = marked_keeps (set m x 1) xs k (set_keeps m x k h)
 
-pub marked_hits : (m : List ℕ) {xs : List ℕ} (k : ℕ) → k < length m → Memᴰ k xs → 1 ≤ get_or (marked m xs) k 0
+hits_in : (k : ℕ) {xs : List ℕ} (m : List ℕ) → k < length m → Memᴰ k xs → 1 ≤ get_or (marked m xs) k 0
 unfolding marked
-marked_hits m k h (Memᴰ.head {x} {xs} e) = marked_keeps (set m x 1) xs k (rw e (set_hits m x (rw e at h)))
-marked_hits m k h (Memᴰ.tail {x} {xs} i) = marked_hits (set m x 1) k (rw (length-set m x 1) h) i
+hits_in k m h (Memᴰ.head {x} {xs} e) = marked_keeps (set m x 1) xs k (rw e (set_hits m x (rw e at h)))
+hits_in k m h (Memᴰ.tail {x} {xs} i) = hits_in k (set m x 1) (rw (length-set m x 1) h) i
+
+pub marked_hits : (m : List ℕ) {xs : List ℕ} (k : ℕ) → k < length m → Memᴰ k xs → 1 ≤ get_or (marked m xs) k 0
+marked_hits m k = hits_in k m
 
 pub marked_only : (m xs : List ℕ) (k : ℕ) → 1 ≤ get_or (marked m xs) k 0 → (1 ≤ get_or m k 0) ⊎ Memᴰ k xs
 unfolding marked

@@ -1,7 +1,12 @@
 // Many inputs of the printing program in one: each is a line with a count of bytes, and then so many
 // bytes. What an input prints is followed by a line `--`.
-use libc::{STDIN_FILENO, STDOUT_FILENO};
+#![tactic(auto)]
+
 use texts::numeral::{Numeral, number_at};
+
+// The streams' numbers, as the system has them.
+const STDIN_FILENO: i32 = 0;
+const STDOUT_FILENO: i32 = 1;
 
 const INPUT_ROOM: usize = 1048576;
 

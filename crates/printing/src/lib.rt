@@ -1,4 +1,6 @@
 // The printing program: what an input asks for (`input`), and what it prints (`print`).
+#![tactic(auto)]
+
 mod input;
 mod print;
 

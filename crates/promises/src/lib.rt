@@ -1,1 +1,2 @@
 // What the calls promise, in one place: proofs alone, no code.
+#![tactic(auto)]

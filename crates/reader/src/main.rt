@@ -1,10 +1,14 @@
 // One reader over a row, asked again and again: it hands out the row's cases in turn, and stays at the
 // row's end and after a refusal. The table is README's session, its commands a rate or a mode.
+#![tactic(auto)]
+
 ghost use Rattle.reader.specs.Asked.{Asked};
 
 use grammar::refusal::number_of;
-use libc::STDOUT_FILENO;
 use rows::{Next, Reader};
+
+// Standard output's number, as the system has it.
+const STDOUT_FILENO: i32 = 1;
 
 const SESSION: [u64; 27] = [
     0, 151, 0, 3, 0, 30, 2, 0, 4, 4, 1, 2, 0, 1, 0, 9, 8, 0, 5, 3, 5, 4, 4, 6, 8, 7, 0,

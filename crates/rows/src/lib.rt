@@ -1,5 +1,7 @@
 // The public calls on rows of cases, and the reader. No call relies on an earlier check: each checks
 // its table first.
+#![tactic(auto)]
+
 mod answer;
 mod reader;
 mod reading;

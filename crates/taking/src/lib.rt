@@ -1,3 +1,5 @@
 // The walk that reads, over a plan: from cells to a number.
+#![tactic(auto)]
+
 pub mod own;
 pub mod take;

@@ -6,7 +6,9 @@ ghost use Rattle.texts.specs.Line.{line_text, spaced};
 ghost use Rattle.texts.specs.Page.{Puts, Spelled, place as place_of};
 
 use super::ascii::{BASE, DIGIT_0};
-use libc::STDOUT_FILENO;
+
+// Standard output's number, as the system has it.
+const STDOUT_FILENO: i32 = 1;
 
 pub const PAGE_BYTES: usize = 65536;
 

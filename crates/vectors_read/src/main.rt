@@ -1,6 +1,10 @@
 // The vectors of `read`, answered as the program `calls` answers.
+#![tactic(auto)]
+
 use calling::INPUT_ROOM;
-use libc::STDIN_FILENO;
+
+// Standard input's number, as the system has it.
+const STDIN_FILENO: i32 = 0;
 
 fn main() {
     let mut room = [0u8; INPUT_ROOM];

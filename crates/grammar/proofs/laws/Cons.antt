@@ -8,12 +8,10 @@ use mathlib.Core.Bool.{true}
 use mathlib.Core.List.Memᴰ
 use Prim.Native.Nat.{ℕ, ◌*◌, ◌^◌, ◌<◌}
 use native.Mathlib.Omega.{arith}
-use lib.Dec.{ltb}
 use borrow.Author.Tests.{ltb-true, leb-true}
 use Rattle.numbers.specs.Size.{Size, finite, endless, Some, times}
 use Rattle.grammar.specs.Checks.{fits}
 use Rattle.grammar.specs.Law.{Fit, flat, Lawful}
-use Rattle.grammar.specs.Rule.{reads}
 use Rattle.grammar.proofs.KindLaw.{fit_some, lower_both, KindLaw, Lower, Plain}
 use native.Mathlib.Nat.{mul-le-mul}
 use Rattle.numbers.specs.Cons

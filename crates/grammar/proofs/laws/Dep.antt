@@ -15,7 +15,6 @@ use Rattle.numbers.specs.Size.{Size, finite, endless, Below, Some}
 use Rattle.grammar.specs.Checks.{fits, is_endless}
 use Rattle.grammar.specs.Law.{Fit, Under, flat, Lawful, Holds}
 use Rattle.numbers.proofs.Tests.{and_left, and_right}
-use Rattle.grammar.specs.Rule.{reads}
 use Rattle.grammar.specs.Kind.{Node, before}
 use Rattle.grammar.proofs.KindLaw.{fit_some, fit_plus, KindLaw, Lower, Plain}
 use mathlib.Core.List.{Memᴰ}

@@ -10,7 +10,7 @@ use native.Mathlib.Nat.{le_refl}
 use native.Mathlib.Omega.{arith}
 use borrow.Author.Tests.{ltb-true}
 use Rattle.numbers.specs.Size.{Size, endless}
-use Rattle.grammar.specs.Rule.{done, reads}
+use Rattle.grammar.specs.Rule.{done}
 use Rattle.grammar.specs.Law.{flat, Lawful}
 use Rattle.grammar.proofs.Tests.{is_endless_lem}
 use Rattle.grammar.proofs.Trees.{spell_done, spell_reads}

@@ -6,7 +6,7 @@
 use mathlib.Core.Path.{refl}
 use Prim.Native.Nat.{ℕ}
 use Rattle.numbers.specs.Size.{Size}
-use Rattle.grammar.specs.Rule.{done, reads}
+use Rattle.grammar.specs.Rule.{done}
 use Rattle.grammar.specs.Law.{Lawful}
 use Rattle.grammar.proofs.Trees.{spell_done, spell_takes}
 use Rattle.grammar.proofs.KindLaw.{KindLaw, Lower, Plain}

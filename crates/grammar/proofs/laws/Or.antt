@@ -12,7 +12,7 @@ use lib.Dec.{eqb, ltb}
 use borrow.Author.Tests.{ltb-true, eqb-true}
 use Rattle.numbers.specs.Size.{Size, finite, endless, Below, Some, plus}
 use Rattle.grammar.specs.Law.{Spells, Each, Down, flat, guarded, Lawful}
-use Rattle.grammar.specs.Rule.{Item, own, reads, Rule}
+use Rattle.grammar.specs.Rule.{Item, own, Rule}
 use Rattle.grammar.proofs.Trees.{spell_done, spell_takes, spell_reads, read_pick, names_pick}
 use Rattle.grammar.proofs.KindLaw.{fit_some, fit_plus, lower_both, KindLaw, Lower, Plain}
 use Rattle.numbers.specs.Or

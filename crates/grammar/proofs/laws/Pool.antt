@@ -15,7 +15,7 @@ use borrow.Author.Tests.{leb-true}
 use Rattle.numbers.specs.Pick.{pick}
 use Rattle.numbers.specs.Size.{Size}
 use Rattle.numbers.proofs.Tests.{and_left, and_right}
-use Rattle.grammar.specs.Rule.{own, done, fails, reads}
+use Rattle.grammar.specs.Rule.{own, done, fails}
 use Rattle.grammar.specs.Law.{Lawful, Holds}
 use Rattle.grammar.specs.Kind.{Node, before}
 use Rattle.grammar.proofs.Trees.{spell_done, spell_takes, spell_left, read_pick, names_pick}

@@ -14,7 +14,7 @@ use native.Mathlib.Omega.{arith}
 use lib.Dec.{eqb}
 use borrow.Author.Tests.{ltb-true, leb-true}
 use Rattle.numbers.specs.Size.{Size}
-use Rattle.grammar.specs.Rule.{done, reads}
+use Rattle.grammar.specs.Rule.{done}
 use Rattle.grammar.specs.Law.{flat, Lawful, Holds}
 use Rattle.grammar.specs.Kind.{Node}
 use Rattle.grammar.proofs.Trees.{spell_done, spell_reads}

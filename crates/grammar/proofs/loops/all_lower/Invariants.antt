@@ -1,0 +1,12 @@
+-- `grammar::loops::all_lower` tests every word of a run.
+-- Assumes nothing.
+use Prim.Native.Nat.{◌+◌, ◌-◌, ◌<◌}
+use lib.ListN.{get_or}
+use Rattle.lists.proofs.Runs.{Upto}
+use Rattle.grammar.proofs.loops.all_lower.Given as goal
+
+abbrev pub invariant-loop-i : goal.invariant-loop-i
+invariant-loop-i l = Upto (λ j. get_or l.pool (l.at + j) 0 < l.n) l.count l.i
+
+abbrev pub decreases-loop-i : goal.decreases-loop-i
+decreases-loop-i l = l.count - l.i
