@@ -1,0 +1,23 @@
+use mathlib.Core.Path.{◌≡◌, sym}
+use mathlib.Core.Bool.{false≢true}
+use Prim.Native.Nat.{ℕ, ◌*◌, ◌-◌, ◌≤◌, ◌<◌}
+use native.Mathlib.Omega.{arith}
+use borrow.Author.Count.{below_none, below_more}
+use lib.ListN.{get_or}
+use Rattle.cycles.proofs.has_again.Goals as goal
+
+pub loop-n-init : goal.loop-n-init
+loop-n-init c =
+    (omega arith, below_none _)
+
+pub returns-then-table-n-eq-AGAIN : goal.returns-then-table-n-eq-AGAIN
+returns-then-table-n-eq-AGAIN c =
+    λ e. absurd (false≢true (sym e))
+
+pub loop-n-preserved : goal.loop-n-preserved
+loop-n-preserved c =
+    (omega arith, below_more _ _ c.loop-n.invariant.1 c.if-table-n-eq-AGAIN.false)
+
+pub returns : goal.returns
+returns c =
+    λ e n l. c.loop-n.invariant.1 n (omega arith)

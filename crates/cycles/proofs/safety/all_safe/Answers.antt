@@ -1,0 +1,25 @@
+use native.Mathlib.Omega.{arith}
+use Rattle.graph.proofs.Marks.{blank}
+use Rattle.grammar.specs.Table.{nodes}
+use Rattle.cycles.specs.Safe.{SafePass}
+use Rattle.cycles.proofs.Safe.{pass_start, all_safe_lem}
+use Rattle.cycles.proofs.safety.all_safe.Goals as goal
+
+pub loop-left-init : goal.loop-left-init
+loop-left-init c =
+    pass_start (blank 256)
+
+pub all_settled-requires : goal.all_settled-requires
+all_settled-requires c =
+    record {
+  ready = c.requires;
+  safe_marks = c.safe_pass-still.ensures.marked;
+}
+
+pub returns-then-left-still : goal.returns-then-left-still
+returns-then-left-still c =
+    c.all_settled.ensures
+
+pub returns : goal.returns
+returns c =
+    λ e. search all_safe_lem

@@ -1,0 +1,15 @@
+-- `cycles::safety::all_safe` makes passes while they go well, and settles what is left.
+-- Assumes nothing.
+use borrow.Author.Rules.{rules}
+use native.Mathlib.Omega.{arith}
+use Rattle.graph.proofs.Marks.{blank}
+use Rattle.grammar.specs.Table.{nodes}
+use Rattle.cycles.specs.Safe.{SafePass}
+use Rattle.cycles.proofs.Safe.{pass_start, all_safe_lem}
+use Rattle.cycles.proofs.safety.all_safe.Given as goal
+
+abbrev pub invariant-loop-left : goal.invariant-loop-left
+invariant-loop-left l = SafePass l.table l.pool l.plan l.safe (nodes l.table) l.left
+
+abbrev pub decreases-loop-left : goal.decreases-loop-left
+decreases-loop-left l = l.left

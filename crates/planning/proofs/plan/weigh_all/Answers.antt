@@ -1,0 +1,28 @@
+use borrow.Author.Rules.{rules}
+use Prim.Native.Nat.{◌-◌}
+use native.Mathlib.Omega.{arith}
+use Rattle.planning.proofs.Scan.{Weighing, weighing_none, weighing_more, weighing_fault, weighing_end}
+use Rattle.planning.proofs.plan.weigh_all.Goals as goal
+
+pub loop-n-init : goal.loop-n-init
+loop-n-init c =
+    search weighing_none
+
+pub weigh-w-requires : goal.weigh-w-requires
+weigh-w-requires c =
+    record {
+  used_value = c.used_words-used.ensures;
+  table_len = omega arith;
+}
+
+pub returns-in-Fault : goal.returns-in-Fault
+returns-in-Fault c =
+    search weighing_fault
+
+pub loop-n-preserved : goal.loop-n-preserved
+loop-n-preserved c =
+    weighing_more c.loop-n.invariant (omega arith) c.weigh-w.ensures (search rules) c.put_row.ensures
+
+pub returns : goal.returns
+returns c =
+    search weighing_end

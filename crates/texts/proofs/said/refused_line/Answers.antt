@@ -1,0 +1,10 @@
+-- `texts::said::refused_line` puts its parts one behind another.
+-- Assumes nothing.
+use Rattle.texts.proofs.page.Putting.{◌then◌}
+use Rattle.texts.specs.Said.{refused_line}
+use Rattle.texts.proofs.said.refused_line.Goals as goal
+
+pub returns : goal.returns
+unfolding refused_line
+returns c =
+    c.refused-said.ensures then c.put_text.ensures
