@@ -1,0 +1,10 @@
+-- `asking::answers::refused_at_item` puts its parts one behind another.
+-- Assumes nothing.
+use Rattle.texts.proofs.page.Putting.{◌then◌}
+use Rattle.asking.specs.Texts.{refused_item}
+use Rattle.asking.proofs.answers.refused_at_item.Goals as goal
+
+pub returns : goal.returns
+unfolding refused_item
+returns c =
+    c.refused-said.ensures then c.put_text-named.ensures then c.put_number-placed.ensures then c.end_line.ensures

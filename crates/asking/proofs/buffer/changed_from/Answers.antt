@@ -1,0 +1,23 @@
+use Prim.Native.Nat.{◌-◌}
+use native.Mathlib.Omega.{arith}
+use lib.ListN.{length}
+use Rattle.asking.proofs.Buffers.{Looking, look_none, look_more, look_changed, look_all}
+use Rattle.asking.proofs.buffer.changed_from.Goals as goal
+
+pub loop-i-init : goal.loop-i-init
+loop-i-init c =
+    look_none
+
+pub returns-then-buffer-i : goal.returns-then-buffer-i
+returns-then-buffer-i c =
+    look_changed c.loop-i.invariant c.loop-i-test.true c.start_word.ensures
+    c.if-buffer-i.true
+
+pub loop-i-preserved : goal.loop-i-preserved
+loop-i-preserved c =
+    look_more c.loop-i.invariant c.loop-i-test.true c.start_word.ensures
+    c.if-buffer-i.false
+
+pub returns : goal.returns
+returns c =
+    look_all c.loop-i.invariant c.loop-i-test.false

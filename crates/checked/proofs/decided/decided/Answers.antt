@@ -1,0 +1,42 @@
+-- `checked::decided::decided` refuses by 12, and then by what the walk met.
+-- Assumes nothing.
+use native.Mathlib.Omega.{arith}
+use Rattle.walk.proofs.Nodes.{in_plan}
+use Rattle.walk.proofs.Rooms.{left_within}
+use Rattle.checked.proofs.Fitting.{may, visits_of, decided_12, decided_walk}
+use Rattle.checked.proofs.decided.decided.Goals as goal
+
+pub overflow_mul-start : goal.overflow_mul-start
+overflow_mul-start c =
+    let q = in_plan c.requires in omega arith
+
+pub overflow_add-start : goal.overflow_add-start
+overflow_add-start c =
+    let q = in_plan c.requires in omega arith
+
+pub offset_bounds-plan-start : goal.offset_bounds-plan-start
+offset_bounds-plan-start c =
+    let q = in_plan c.requires in omega arith
+
+pub bounds-plan-start : goal.bounds-plan-start
+bounds-plan-start c =
+    let q = in_plan c.requires in omega arith
+
+pub tally-requires : goal.tally-requires
+tally-requires c =
+    let a = c.asked.ensures in let y = c.if-asked.true in record {
+  visits = visits_of c.requires _ a y;
+  left_bound = (omega (arith, (may c.requires _ a y).small), omega arith, omega (arith, c.room_for-most.ensures));
+}
+
+pub fit_of-requires : goal.fit_of-requires
+fit_of-requires c =
+    left_within _ c.tally.ensures
+
+pub returns-then-asked : goal.returns-then-asked
+returns-then-asked c =
+    search (decided_walk)
+
+pub returns : goal.returns
+returns c =
+    search (decided_12)
