@@ -6,6 +6,3 @@ pub mod Gathering
 pub mod Cuts
 pub mod CountedRows
 pub mod Answers
-pub mod Slices
-pub mod Lent
-pub mod Asking

@@ -1,0 +1,16 @@
+-- `rows::reading::gather_row` reads the items in turn, over a buffer.
+-- Assumes nothing.
+use borrow.Author.Rules.{rules}
+use Prim.Native.Nat.{◌-◌}
+use native.Mathlib.Omega.{arith}
+use lib.ListN.{length}
+use Rattle.grammar.specs.Plan.{rule_in}
+use Rattle.checked.proofs.Standing.{stood}
+use Rattle.rows.proofs.Gathering.{Storing, storing_none, same_length, storing_more, storing_full, storing_stops, storing_done}
+use Rattle.rows.proofs.reading.gather_row.Given as goal
+
+abbrev pub invariant-loop-at : goal.invariant-loop-at
+invariant-loop-at l = Storing (rule_in l.plan l.pool) l.start l.room l.cells l.initial.out l.out l.at l.items
+
+abbrev pub decreases-loop-at : goal.decreases-loop-at
+decreases-loop-at l = length l.cells - l.at

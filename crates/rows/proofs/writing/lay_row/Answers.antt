@@ -1,0 +1,52 @@
+use mathlib.Core.Path.{refl}
+use Prim.Native.Nat.{◌-◌}
+use native.Mathlib.Omega.{arith}
+use lib.ListN.{length}
+use Rattle.grammar.specs.Plan.{rule_in}
+use Rattle.rows.proofs.WrittenInTurn.{Laying, laying_none, laying_long, laying_within, laying_fits, laying_more, laying_left, laying_stops, laying_done}
+use Rattle.rows.proofs.writing.lay_row.Goals as goal
+
+pub loop-items-init : goal.loop-items-init
+loop-items-init c =
+    laying_none _ _ _ _
+
+pub offset_bounds-cells-used : goal.offset_bounds-cells-used
+offset_bounds-cells-used c =
+    omega (arith, laying_within _ _ c.loop-items.invariant, laying_long _ _ c.loop-items.invariant)
+
+pub slice_bounds-fits-count : goal.slice_bounds-fits-count
+slice_bounds-fits-count c =
+    search (laying_within)
+
+pub slice_bounds-fits-start : goal.slice_bounds-fits-start
+slice_bounds-fits-start c =
+    search (laying_within)
+
+pub slice_bounds-fits-end : goal.slice_bounds-fits-end
+slice_bounds-fits-end c =
+    omega (arith, laying_within _ _ c.loop-items.invariant)
+
+pub overflow_add-used : goal.overflow_add-used
+overflow_add-used c =
+    let good = c.well_formed in let long = laying_long _ _ c.loop-items.invariant in
+    omega (arith, laying_fits _ _ c.loop-items.invariant c.loop-items-test.true refl c.fits.ensures c.in-Cells.is)
+
+pub loop-items-preserved : goal.loop-items-preserved
+loop-items-preserved c =
+    search (laying_more)
+
+pub shape_of-cells-in-Not : goal.shape_of-cells-in-Not
+shape_of-cells-in-Not c =
+    search (laying_left)
+
+pub returns-in-Not : goal.returns-in-Not
+returns-in-Not c =
+    search (laying_stops)
+
+pub shape_of-cells : goal.shape_of-cells
+shape_of-cells c =
+    search (laying_long)
+
+pub returns : goal.returns
+returns c =
+    search (laying_done)
