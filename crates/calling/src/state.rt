@@ -14,7 +14,7 @@ pub const MOST_POOL_WORDS: usize = 5000;
 
 // The next line starts at `at`, and `used` bytes wait on the page. Where a table is known, it has
 // `table` words and its pool `pool`, at the front of the words that are lent for them.
-#[derive(Drop)]
+#[derive(Clone, Copy)]
 pub struct State {
     pub at: usize,
     pub used: usize,

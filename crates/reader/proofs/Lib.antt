@@ -1,2 +1,2 @@
--- What the walk of the asks cites.
+-- What the proof of the asks cites.
 mod Asks

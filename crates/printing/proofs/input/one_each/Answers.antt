@@ -1,0 +1,31 @@
+use mathlib.Core.Path.{sym, ◌∙◌}
+use Prim.Native.Nat.{◌-◌}
+use native.Mathlib.Omega.{arith}
+use lib.ListN.{length}
+use Rattle.printing.proofs.input.Numbers.{Passing, one_within, pass_start, pass_more, pass_not, pass_end}
+use Rattle.printing.proofs.input.one_each.Goals as goal
+
+pub loop-at-init : goal.loop-at-init
+loop-at-init c =
+    pass_start
+
+pub loop-at-smaller : goal.loop-at-smaller
+loop-at-smaller c =
+    omega (
+      arith,
+      one_within _ _ (sym c.one_at.ensures ∙ c.in-Number.is),
+    )
+
+pub loop-at-preserved : goal.loop-at-preserved
+loop-at-preserved c =
+    pass_more c.loop-at.invariant c.loop-at-test.true
+    c.one_at.ensures c.in-Number.is
+
+pub returns-in-Not : goal.returns-in-Not
+returns-in-Not c =
+    pass_not c.loop-at.invariant c.loop-at-test.true c.one_at.ensures
+    c.in-Not.is
+
+pub returns : goal.returns
+returns c =
+    pass_end c.loop-at.invariant c.loop-at-test.false

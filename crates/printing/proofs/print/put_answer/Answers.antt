@@ -1,0 +1,24 @@
+-- `printing::print::put_answer` prints the cells that were written, or the refusal.
+-- Assumes nothing.
+use borrow.Author.Rules.{rules}
+use native.Mathlib.Omega.{arith}
+use lib.ListN.{length-take}
+use Rattle.cases.proofs.Counted.{written_fits}
+use Rattle.printing.proofs.print.Cases.{case_done, case_refused}
+use Rattle.printing.proofs.print.put_answer.Goals as goal
+
+pub slice_bounds-cells-end : goal.slice_bounds-cells-end
+slice_bounds-cells-end c =
+    omega (arith, written_fits c.write.ensures _ c.in-Done.is)
+
+pub slice_bounds-put_case-end : goal.slice_bounds-put_case-end
+slice_bounds-put_case-end c =
+    simp length-take (omega (arith, written_fits c.write.ensures _ c.in-Done.is))
+
+pub returns-in-Done : goal.returns-in-Done
+returns-in-Done c =
+    search (rules, case_done)
+
+pub returns-in-Refused : goal.returns-in-Refused
+returns-in-Refused c =
+    search (rules, case_refused)
