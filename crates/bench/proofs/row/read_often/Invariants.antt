@@ -1,0 +1,14 @@
+-- `bench::row::read_often` counts its turns.
+-- Assumes nothing.
+use borrow.Author.Rules.{rules}
+use mathlib.Core.Path.{◌≡◌}
+use Prim.Native.Nat.{◌-◌, ◌≤◌}
+use lib.ListN.{length}
+use Rattle.bench.proofs.row.read_often.Given as goal
+
+abbrev pub invariant-loop-k : goal.invariant-loop-k
+invariant-loop-k l = (l.k ≤ l.times) × (length l.table ≡ length l.initial.table) ×
+    (length l.numbers ≡ length l.initial.numbers)
+
+abbrev pub decreases-loop-k : goal.decreases-loop-k
+decreases-loop-k l = l.times - l.k
