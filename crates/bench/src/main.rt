@@ -11,6 +11,7 @@ use texts::line::{Line, numbers_at};
 
 // The streams' numbers, as the system has them.
 const STDIN_FILENO: i32 = 0;
+
 const STDOUT_FILENO: i32 = 1;
 
 const MOST_CELLS: usize = 65536;

@@ -12,7 +12,7 @@ use Rattle.numbers.specs.Size.{Size, code_of}
 use Rattle.grammar.specs.Table.{kind_of, a_of, b_of, nodes}
 use Rattle.grammar.specs.Checks.{Row, fault, sized}
 use Rattle.grammar.specs.Nodes.{row_at}
-use Rattle.grammar.specs.Sizes.{passed, faulty, size_at, onward, scan, sizes}
+use Rattle.grammar.specs.Sizes.{passed, size_at, onward, scan, sizes}
 use Rattle.grammar.specs.Plan.{size_in, rowed, coded, Planned, AllWeighed}
 use Rattle.grammar.specs.declared.refusal.Refusal.{Refusal}
 use Rattle.grammar.specs.declared.refusal.Verdict.TheVariants.{Accepted, Refused}

@@ -6,6 +6,7 @@ use texts::numeral::{Numeral, number_at};
 
 // The streams' numbers, as the system has them.
 const STDIN_FILENO: i32 = 0;
+
 const STDOUT_FILENO: i32 = 1;
 
 const INPUT_ROOM: usize = 1048576;

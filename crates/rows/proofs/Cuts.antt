@@ -28,7 +28,7 @@ use Rattle.checked.specs.declared.fits.Fit.TheVariants.{Cells}
 use Rattle.checked.proofs.Fitted.{cells_map, fitted_is, fitted_cells}
 use Rattle.cases.proofs.WalkAnswers.{front_number}
 use Rattle.cases.proofs.BothSides.{case_some, reads_on, read_case}
-use Rattle.rows.specs.WriteRow.{onward, in_turn, row_of}
+use Rattle.rows.specs.WriteRow.{in_turn, row_of}
 use Rattle.rows.specs.ReadRow.{Gathered, all, stopped, after, gather}
 use Rattle.rows.specs.ReadRow as Rows-read
 use Rattle.rows.specs.Reader.{next, next_of, after_of, stride_of}

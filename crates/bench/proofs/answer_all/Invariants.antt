@@ -1,6 +1,5 @@
 -- `bench::answer_all` counts its lines.
 -- Assumes nothing.
-use borrow.Author.Rules.{rules}
 use Prim.Native.Nat.{◌-◌, ◌≤◌}
 use Rattle.bench.proofs.answer_all.Given as goal
 

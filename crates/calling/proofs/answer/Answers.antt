@@ -1,7 +1,5 @@
-use Prim.Native.Nat.{◌-◌}
-use lib.ListN.{length}
 use Rattle.texts.proofs.page.Putting.{told}
-use Rattle.calling.proofs.Input.{Answering, answer_none, answer_less, answer_more, answer_all, answer_not}
+use Rattle.calling.proofs.Input.{answer_none, answer_less, answer_more, answer_all, answer_not}
 use Rattle.calling.proofs.answer.Goals as goal
 
 pub returns-then-not-readable : goal.returns-then-not-readable

@@ -1,10 +1,8 @@
 -- `calling::answer` answers line by line: all that the text prints is put on the page.
 -- Assumes nothing.
-use borrow.Author.Rules.{rules}
 use Prim.Native.Nat.{◌-◌}
 use lib.ListN.{length}
-use Rattle.texts.proofs.page.Putting.{told}
-use Rattle.calling.proofs.Input.{Answering, answer_none, answer_less, answer_more, answer_all, answer_not}
+use Rattle.calling.proofs.Input.{Answering}
 use Rattle.calling.proofs.answer.Given as goal
 
 abbrev pub invariant-loop-state : goal.invariant-loop-state

@@ -1,9 +1,7 @@
 -- `printer_tests::print_each` goes from input to input, each further on.
 -- Assumes nothing.
-use Prim.Native.Nat.{◌-◌}
 use native.Mathlib.Omega.{arith}
 use mathlib.Core.Path.{sym, ◌∙◌}
-use lib.ListN.{length}
 use Rattle.texts.proofs.numeral.Digits.{number_within}
 use Rattle.printer_tests.proofs.print_each.Goals as goal
 

@@ -1,7 +1,4 @@
-use Prim.Native.Nat.{◌-◌}
-use native.Mathlib.Omega.{arith}
-use lib.ListN.{length}
-use Rattle.asking.proofs.Buffers.{Looking, look_none, look_more, look_changed, look_all}
+use Rattle.asking.proofs.Buffers.{look_none, look_more, look_changed, look_all}
 use Rattle.asking.proofs.buffer.changed_from.Goals as goal
 
 pub loop-i-init : goal.loop-i-init

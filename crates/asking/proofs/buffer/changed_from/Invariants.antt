@@ -1,10 +1,8 @@
 -- `asking::buffer::changed_from` goes word by word to one that has changed or to the end.
 -- Assumes nothing.
-use borrow.Author.Rules.{rules}
 use Prim.Native.Nat.{◌-◌}
-use native.Mathlib.Omega.{arith}
 use lib.ListN.{length}
-use Rattle.asking.proofs.Buffers.{Looking, look_none, look_more, look_changed, look_all}
+use Rattle.asking.proofs.Buffers.{Looking}
 use Rattle.asking.proofs.buffer.changed_from.Given as goal
 
 abbrev pub invariant-loop-i : goal.invariant-loop-i

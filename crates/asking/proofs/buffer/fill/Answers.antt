@@ -1,7 +1,5 @@
-use Prim.Native.Nat.{◌-◌}
 use native.Mathlib.Omega.{arith}
-use lib.ListN.{length}
-use Rattle.asking.proofs.Buffers.{Filling, fill_none, fill_same, fill_more, fill_all}
+use Rattle.asking.proofs.Buffers.{fill_none, fill_same, fill_more, fill_all}
 use Rattle.asking.proofs.buffer.fill.Goals as goal
 
 pub loop-i-init : goal.loop-i-init

@@ -1,10 +1,8 @@
 -- `asking::buffer::fill` goes word by word.
 -- Assumes nothing.
-use borrow.Author.Rules.{rules}
 use Prim.Native.Nat.{◌-◌}
-use native.Mathlib.Omega.{arith}
 use lib.ListN.{length}
-use Rattle.asking.proofs.Buffers.{Filling, fill_none, fill_same, fill_more, fill_all}
+use Rattle.asking.proofs.Buffers.{Filling}
 use Rattle.asking.proofs.buffer.fill.Given as goal
 
 abbrev pub invariant-loop-i : goal.invariant-loop-i

@@ -1,7 +1,5 @@
-use Prim.Native.Nat.{◌-◌}
 use native.Mathlib.Omega.{arith}
-use lib.ListN.{length}
-use Rattle.asking.proofs.Comparing.{same_long, Comparing, compare_none, compare_other, compare_more, compare_all}
+use Rattle.asking.proofs.Comparing.{same_long, compare_none, compare_other, compare_more, compare_all}
 use Rattle.asking.proofs.same.same.Goals as goal
 
 pub returns-then-a-b : goal.returns-then-a-b

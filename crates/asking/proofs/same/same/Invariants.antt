@@ -1,10 +1,8 @@
 -- `asking::same::same` compares byte by byte, where both have as many.
 -- Assumes nothing.
-use borrow.Author.Rules.{rules}
 use Prim.Native.Nat.{◌-◌}
-use native.Mathlib.Omega.{arith}
 use lib.ListN.{length}
-use Rattle.asking.proofs.Comparing.{same_long, Comparing, compare_none, compare_other, compare_more, compare_all}
+use Rattle.asking.proofs.Comparing.{Comparing}
 use Rattle.asking.proofs.same.same.Given as goal
 
 abbrev pub invariant-loop-i : goal.invariant-loop-i

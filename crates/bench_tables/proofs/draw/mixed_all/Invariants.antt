@@ -1,6 +1,5 @@
 -- `bench_tables::draw::mixed_all` goes word by word.
 -- Assumes nothing.
-use borrow.Author.Rules.{rules}
 use Prim.Native.Nat.{◌-◌, ◌≤◌}
 use lib.ListN.{length}
 use Rattle.bench_tables.proofs.draw.mixed_all.Given as goal

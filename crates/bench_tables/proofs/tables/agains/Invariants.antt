@@ -1,6 +1,5 @@
 -- `bench_tables::tables::agains` lays out 127 agains and their fixes.
 -- Assumes nothing.
-use borrow.Author.Rules.{rules}
 use Prim.Native.Nat.{◌-◌, ◌≤◌}
 use Rattle.bench_tables.proofs.tables.agains.Given as goal
 

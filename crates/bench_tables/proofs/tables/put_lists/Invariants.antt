@@ -1,6 +1,5 @@
 -- `bench_tables::tables::put_lists` goes list by list.
 -- Assumes nothing.
-use borrow.Author.Rules.{rules}
 use Prim.Native.Nat.{◌-◌, ◌≤◌}
 use Rattle.bench_tables.proofs.tables.put_lists.Given as goal
 

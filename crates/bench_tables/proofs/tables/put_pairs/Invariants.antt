@@ -1,6 +1,5 @@
 -- `bench_tables::tables::put_pairs` goes level by level.
 -- Assumes nothing.
-use borrow.Author.Rules.{rules}
 use Prim.Native.Nat.{◌-◌, ◌≤◌}
 use Rattle.bench_tables.proofs.tables.put_pairs.Given as goal
 

@@ -1,6 +1,5 @@
 -- `bench_tables::tables::put_words` goes word by word.
 -- Assumes nothing.
-use borrow.Author.Rules.{rules}
 use Prim.Native.Nat.{◌-◌, ◌≤◌}
 use Rattle.bench_tables.proofs.tables.put_words.Given as goal
 

@@ -1,6 +1,5 @@
 -- `bench_tables::tables::seconds` lays out 256 seconds.
 -- Assumes nothing.
-use borrow.Author.Rules.{rules}
 use Prim.Native.Nat.{◌-◌, ◌≤◌}
 use Rattle.bench_tables.proofs.tables.seconds.Given as goal
 

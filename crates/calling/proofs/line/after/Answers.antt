@@ -1,7 +1,4 @@
-use Prim.Native.Nat.{◌-◌}
-use native.Mathlib.Omega.{arith}
-use lib.ListN.{length}
-use Rattle.calling.proofs.Input.{Ending, end_none, end_lf, end_more, end_all}
+use Rattle.calling.proofs.Input.{end_none, end_lf, end_more, end_all}
 use Rattle.calling.proofs.line.after.Goals as goal
 
 pub loop-i-init : goal.loop-i-init

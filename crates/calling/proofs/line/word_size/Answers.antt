@@ -1,7 +1,4 @@
-use Prim.Native.Nat.{◌-◌}
-use native.Mathlib.Omega.{arith}
-use lib.ListN.{length}
-use Rattle.calling.proofs.Lines.{Sizing, sizing_none, sizing_all, sizing_ends, sizing_more, ends_space, ends_lf, ends_not}
+use Rattle.calling.proofs.Lines.{sizing_none, sizing_all, sizing_ends, sizing_more, ends_space, ends_lf, ends_not}
 use Rattle.calling.proofs.line.word_size.Goals as goal
 
 pub loop-i-init : goal.loop-i-init

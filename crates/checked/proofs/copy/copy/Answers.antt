@@ -1,6 +1,5 @@
-use Prim.Native.Nat.{◌-◌}
 use native.Mathlib.Omega.{arith}
-use Rattle.checked.proofs.Copying.{Copied, copied_none, copied_more, copied_long, copied_all}
+use Rattle.checked.proofs.Copying.{copied_none, copied_more, copied_long, copied_all}
 use Rattle.checked.proofs.copy.copy.Goals as goal
 
 pub loop-i-init : goal.loop-i-init

@@ -1,8 +1,7 @@
 -- `checked::copy::copy` puts cells over the front of a buffer.
 -- Assumes nothing.
 use Prim.Native.Nat.{◌-◌}
-use native.Mathlib.Omega.{arith}
-use Rattle.checked.proofs.Copying.{Copied, copied_none, copied_more, copied_long, copied_all}
+use Rattle.checked.proofs.Copying.{Copied}
 use Rattle.checked.proofs.copy.copy.Given as goal
 
 abbrev pub invariant-loop-i : goal.invariant-loop-i

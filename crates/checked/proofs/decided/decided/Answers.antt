@@ -25,9 +25,9 @@ bounds-plan-start c =
 pub tally-requires : goal.tally-requires
 tally-requires c =
     let a = c.asked.ensures in let y = c.if-asked.true in record {
-  visits = visits_of c.requires _ a y;
-  left_bound = (omega (arith, (may c.requires _ a y).small), omega arith, omega (arith, c.room_for-most.ensures));
-}
+      visits = visits_of c.requires _ a y;
+      left_bound = (omega (arith, (may c.requires _ a y).small), omega arith, omega (arith, c.room_for-most.ensures));
+    }
 
 pub fit_of-requires : goal.fit_of-requires
 fit_of-requires c =

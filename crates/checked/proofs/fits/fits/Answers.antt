@@ -29,9 +29,9 @@ slice_bounds-lay-end-then-asked c =
 pub lay-rest-requires : goal.lay-rest-requires
 lay-rest-requires c =
     let a = c.asked.ensures in let y = c.if-asked.true in let long = lent_long c.args.out.now c.room_for-most.ensures in record {
-  visits = (visits_of c.requires _ a y, raised_zero _ _);
-  left_bound = (omega (arith, (may c.requires _ a y).small), omega arith, omega arith, omega (arith, c.room_for-most.ensures));
-}
+      visits = (visits_of c.requires _ a y, raised_zero _ _);
+      left_bound = (omega (arith, (may c.requires _ a y).small), omega arith, omega arith, omega (arith, c.room_for-most.ensures));
+    }
 
 pub fit_of-requires : goal.fit_of-requires
 fit_of-requires c =

@@ -25,13 +25,13 @@ returns-then-next-cells c =
 pub returns-then-word-lt-LARGEST : goal.returns-then-word-lt-LARGEST
 returns-then-word-lt-LARGEST c =
     let none : (length c.args.cells.now ≤ c.args.at + c.take-word.new.at) ⊎ (c.args.whole ≡ false) =
-      elim c.if-whole.branch [ then-whole+else-next-cells w ↦ inl w.if-next-cells.false | else-whole w ↦ inr w.if-whole.false ]
+    elim c.if-whole.branch [ then-whole+else-next-cells w ↦ inl w.if-next-cells.false | else-whole w ↦ inr w.if-whole.false ]
     in
     search (stood_number)
 
 pub returns : goal.returns
 returns c =
     let none : (length c.args.cells.now ≤ c.args.at + c.take-word.new.at) ⊎ (c.args.whole ≡ false) =
-      elim c.if-whole.branch [ then-whole+else-next-cells w ↦ inl w.if-next-cells.false | else-whole w ↦ inr w.if-whole.false ]
+    elim c.if-whole.branch [ then-whole+else-next-cells w ↦ inl w.if-next-cells.false | else-whole w ↦ inr w.if-whole.false ]
     in
     search (stood_large)

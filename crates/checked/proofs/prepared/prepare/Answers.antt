@@ -25,9 +25,9 @@ returns-then-pool-gt-MOST_WORDS c =
 pub weigh_all-v-requires : goal.weigh_all-v-requires
 weigh_all-v-requires c =
     record {
-  table_len = omega arith;
-  plan_value = (c.requires.clear, c.requires.long (omega arith));
-}
+      table_len = omega arith;
+      plan_value = (c.requires.clear, c.requires.long (omega arith));
+    }
 
 pub judge-requires : goal.judge-requires
 judge-requires c =

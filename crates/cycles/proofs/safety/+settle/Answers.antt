@@ -1,6 +1,4 @@
-use Prim.Native.Nat.{ℕ, ◌-◌, ◌≤◌, ◌<◌}
 use native.Mathlib.Omega.{arith}
-use Rattle.cycles.specs.Safe.{SafeMarks}
 use Rattle.cycles.proofs.Steps.{one_in, two_in, run_in}
 use Rattle.cycles.proofs.Safe.{now_marked}
 use Rattle.cycles.proofs.safety.+settle.Goals as goal

@@ -1,7 +1,4 @@
-use native.Mathlib.Omega.{arith}
 use Rattle.graph.proofs.Marks.{blank}
-use Rattle.grammar.specs.Table.{nodes}
-use Rattle.cycles.specs.Safe.{SafePass}
 use Rattle.cycles.proofs.Safe.{pass_start, all_safe_lem}
 use Rattle.cycles.proofs.safety.all_safe.Goals as goal
 
@@ -12,9 +9,9 @@ loop-left-init c =
 pub all_settled-requires : goal.all_settled-requires
 all_settled-requires c =
     record {
-  ready = c.requires;
-  safe_marks = c.safe_pass-still.ensures.marked;
-}
+      ready = c.requires;
+      safe_marks = c.safe_pass-still.ensures.marked;
+    }
 
 pub returns-then-left-still : goal.returns-then-left-still
 returns-then-left-still c =

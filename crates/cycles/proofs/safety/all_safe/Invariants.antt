@@ -1,11 +1,7 @@
 -- `cycles::safety::all_safe` makes passes while they go well, and settles what is left.
 -- Assumes nothing.
-use borrow.Author.Rules.{rules}
-use native.Mathlib.Omega.{arith}
-use Rattle.graph.proofs.Marks.{blank}
 use Rattle.grammar.specs.Table.{nodes}
 use Rattle.cycles.specs.Safe.{SafePass}
-use Rattle.cycles.proofs.Safe.{pass_start, all_safe_lem}
 use Rattle.cycles.proofs.safety.all_safe.Given as goal
 
 abbrev pub invariant-loop-left : goal.invariant-loop-left

@@ -1,7 +1,6 @@
 use mathlib.Core.Bool.{false≢true}
-use Prim.Native.Nat.{◌-◌}
 use native.Mathlib.Omega.{arith}
-use Rattle.cycles.proofs.Safe.{Settled, settled_none, settled_more, settled_all}
+use Rattle.cycles.proofs.Safe.{settled_none, settled_more, settled_all}
 use Rattle.cycles.proofs.safety.all_settled.Goals as goal
 
 pub loop-n-init : goal.loop-n-init
@@ -15,10 +14,10 @@ loop-n-preserved-then-safe-n-ne0 c =
 pub settle-requires : goal.settle-requires
 settle-requires c =
     record {
-  ready = c.requires.ready;
-  n_bound = omega arith;
-  safe_marks = c.loop-n.invariant.marked;
-}
+      ready = c.requires.ready;
+      n_bound = omega arith;
+      safe_marks = c.loop-n.invariant.marked;
+    }
 
 pub returns-then-safe-n-eq0 : goal.returns-then-safe-n-eq0
 returns-then-safe-n-eq0 c =

@@ -1,9 +1,7 @@
 -- `cycles::safety::all_settled` settles the nodes, rising.
 -- Assumes nothing.
-use mathlib.Core.Bool.{false≢true}
 use Prim.Native.Nat.{◌-◌}
-use native.Mathlib.Omega.{arith}
-use Rattle.cycles.proofs.Safe.{Settled, settled_none, settled_more, settled_all}
+use Rattle.cycles.proofs.Safe.{Settled}
 use Rattle.cycles.proofs.safety.all_settled.Given as goal
 
 abbrev pub invariant-loop-n : goal.invariant-loop-n

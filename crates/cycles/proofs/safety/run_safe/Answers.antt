@@ -1,8 +1,4 @@
-use mathlib.Core.Path.{◌≡◌}
-use Prim.Native.Nat.{◌+◌, ◌-◌}
-use native.Mathlib.Omega.{arith}
-use lib.ListN.{get_or}
-use Rattle.lists.proofs.Runs.{Upto, upto_none, upto_more}
+use Rattle.lists.proofs.Runs.{upto_none, upto_more}
 use Rattle.cycles.proofs.Safe.{run_safe_lem, run_not}
 use Rattle.cycles.proofs.safety.run_safe.Goals as goal
 

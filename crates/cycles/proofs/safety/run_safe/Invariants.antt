@@ -2,10 +2,8 @@
 -- Assumes nothing.
 use mathlib.Core.Path.{◌≡◌}
 use Prim.Native.Nat.{◌+◌, ◌-◌}
-use native.Mathlib.Omega.{arith}
 use lib.ListN.{get_or}
-use Rattle.lists.proofs.Runs.{Upto, upto_none, upto_more}
-use Rattle.cycles.proofs.Safe.{run_safe_lem, run_not}
+use Rattle.lists.proofs.Runs.{Upto}
 use Rattle.cycles.proofs.safety.run_safe.Given as goal
 
 abbrev pub invariant-loop-i : goal.invariant-loop-i

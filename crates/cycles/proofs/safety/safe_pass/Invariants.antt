@@ -1,10 +1,7 @@
 -- `cycles::safety::safe_pass` marks the nodes whose steps lead to safe nodes, rising.
 -- Assumes nothing.
-use borrow.Author.Rules.{rules}
 use Prim.Native.Nat.{◌-◌, ◌≤◌}
-use native.Mathlib.Omega.{arith}
 use Rattle.cycles.specs.Safe.{SafePass}
-use Rattle.cycles.proofs.Safe.{pass_none, pass_marked, pass_safe, pass_left, pass_end}
 use Rattle.cycles.proofs.safety.safe_pass.Given as goal
 
 abbrev pub invariant-loop-n : goal.invariant-loop-n

@@ -14,9 +14,9 @@ one_safe-requires-then-one_safe c =
 pub run_safe-requires : goal.run_safe-requires
 run_safe-requires c =
     let s = c.steps_of-s.ensures in record {
-  count_in_bounds = s.inside;
-  by_index = run_few c.requires.ready _ _ s;
-}
+      count_in_bounds = s.inside;
+      by_index = run_few c.requires.ready _ _ s;
+    }
 
 pub returns-then-one_safe-2 : goal.returns-then-one_safe-2
 returns-then-one_safe-2 c =

@@ -1,8 +1,6 @@
 use mathlib.Core.Path.{refl}
-use Prim.Native.Nat.{◌+◌, ◌*◌}
-use native.Mathlib.Omega.{arith}
-use Rattle.graph.proofs.Marks.{zeros, blank}
-use Rattle.cycles.proofs.Table.{Sought, sought_start, sought_unseen, sought_done, sought_again, sought_lower, falls_again, falls_lower, sought_end}
+use Rattle.graph.proofs.Marks.{blank}
+use Rattle.cycles.proofs.Table.{sought_start, sought_unseen, sought_done, sought_again, sought_lower, falls_again, falls_lower, sought_end}
 use Rattle.cycles.proofs.search.comes_back.Goals as goal
 
 pub loop-top-init : goal.loop-top-init

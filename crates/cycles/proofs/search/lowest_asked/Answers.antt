@@ -1,7 +1,4 @@
-use mathlib.Core.Logic.{⊎_elim}
-use Prim.Native.Nat.{◌-◌}
-use native.Mathlib.Omega.{arith}
-use Rattle.cycles.proofs.Table.{Passed, passed_none, passed_kind, passed_cycle, lowest_found, lowest_none}
+use Rattle.cycles.proofs.Table.{passed_none, passed_kind, passed_cycle, lowest_found, lowest_none}
 use Rattle.cycles.proofs.search.lowest_asked.Goals as goal
 use Rattle.cycles.proofs.search.lowest_asked.Goals.{then-asked+else-comes_back, else-asked}
 
@@ -22,7 +19,7 @@ loop-n-preserved c =
     let l = c.loop-n-test.true in
     let a = c.asked.ensures in
     elim c.if-asked.branch [
-      then-asked+else-comes_back w ↦ passed_cycle _ r _ a i l w.comes_back.ensures w.if-comes_back.false
+      | then-asked+else-comes_back w ↦ passed_cycle _ r _ a i l w.comes_back.ensures w.if-comes_back.false
       | else-asked w ↦ passed_kind _ r _ a i l w.if-asked.false
     ]
 

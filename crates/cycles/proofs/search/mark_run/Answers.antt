@@ -1,6 +1,4 @@
-use Prim.Native.Nat.{◌-◌}
-use native.Mathlib.Omega.{arith}
-use Rattle.graph.proofs.Marks.{Run, run_none, run_more, run_all}
+use Rattle.graph.proofs.Marks.{run_none, run_more, run_all}
 use Rattle.cycles.proofs.search.mark_run.Goals as goal
 
 pub loop-i-init : goal.loop-i-init

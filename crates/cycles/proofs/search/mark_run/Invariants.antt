@@ -1,8 +1,7 @@
 -- `cycles::search::mark_run` marks the nodes of a run.
 -- Assumes nothing.
 use Prim.Native.Nat.{◌-◌}
-use native.Mathlib.Omega.{arith}
-use Rattle.graph.proofs.Marks.{Run, run_none, run_more, run_all}
+use Rattle.graph.proofs.Marks.{Run}
 use Rattle.cycles.proofs.search.mark_run.Given as goal
 
 abbrev pub invariant-loop-i : goal.invariant-loop-i

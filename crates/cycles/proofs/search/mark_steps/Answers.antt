@@ -14,10 +14,10 @@ mark_one-requires-2 c =
 pub mark_run-requires : goal.mark_run-requires
 mark_run-requires c =
     let s = c.steps_of-s.ensures in record {
-  count_in_bounds = s.inside;
-  by_index = run_few
+      count_in_bounds = s.inside;
+      by_index = run_few
           c.requires.ready _ _ s;
-}
+    }
 
 pub returns : goal.returns
 returns c =

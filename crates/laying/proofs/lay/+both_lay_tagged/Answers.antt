@@ -1,5 +1,4 @@
-use mathlib.Core.Path.{refl, ◌∙◌}
-use Prim.Native.Nat.{ℕ, ◌+◌, ◌*◌, ◌<◌}
+use mathlib.Core.Path.{refl}
 use native.Mathlib.Omega.{arith}
 use lib.ListN.{length-set}
 use Rattle.walk.proofs.Rooms.{tallied_deep, left_within}
@@ -16,14 +15,13 @@ use Rattle.laying.proofs.lay.+both_lay_tagged.Goals as goal
 
 pub both-lay-rest-requires : goal.both-lay-rest-requires
 unfolding rules
-both-lay-rest-requires t c =
-    (
-      omega (arith, c.decreases),
-      (
-        (c.requires.visits_two.0, raised_zero _ _),
-        (c.requires.left_bound.0, omega (arith, c.requires.left_bound.2), c.requires.left_bound.2, c.requires.left_bound.3),
-      ),
-    )
+both-lay-rest-requires t c = (
+  omega (arith, c.decreases),
+  (
+    (c.requires.visits_two.0, raised_zero _ _),
+    (c.requires.left_bound.0, omega (arith, c.requires.left_bound.2), c.requires.left_bound.2, c.requires.left_bound.3),
+  ),
+)
 
 pub both-shape_of-out-then-rest-ge-TOO_DEEP : goal.both-shape_of-out-then-rest-ge-TOO_DEEP
 unfolding rules
@@ -67,20 +65,19 @@ both-slice_bounds-lay-end t c =
 
 pub both-lay-requires : goal.both-lay-requires
 unfolding rules
-both-lay-requires t c =
+both-lay-requires t c = (
+  omega (arith, c.decreases),
+  (
+    (c.requires.visits_two.1, raised_zero _ _),
     (
-      omega (arith, c.decreases),
-      (
-        (c.requires.visits_two.1, raised_zero _ _),
-        (
-          c.requires.left_bound.1,
-          omega (arith, c.requires.left_bound.2),
-          c.requires.left_bound.2,
-          lent_most _ c.lay-rest.ensures
-              c.requires.left_bound.3,
-        ),
-      ),
-    )
+      c.requires.left_bound.1,
+      omega (arith, c.requires.left_bound.2),
+      c.requires.left_bound.2,
+      lent_most _ c.lay-rest.ensures
+          c.requires.left_bound.3,
+    ),
+  ),
+)
 
 pub both-shape_of-out : goal.both-shape_of-out
 unfolding rules
@@ -217,9 +214,9 @@ unfolding rules
 lay-step-requires-in-5 t c =
     let v = visited c.requires.visits.0 in let l = parts_by v
     c.in-5.is in record {
-  a_in_bounds = two_in v l;
-  nonzero = two_some v l;
-}
+      a_in_bounds = two_in v l;
+      nonzero = two_some v l;
+    }
 
 pub lay-both-requires : goal.lay-both-requires
 unfolding rules
@@ -232,9 +229,9 @@ pub lay-step-requires-in-6 : goal.lay-step-requires-in-6
 unfolding rules
 lay-step-requires-in-6 t c =
     let v = c.requires.visits.0 in record {
-  dep_in = ((choosing (visited v) c.in-6.is).words, v.walks.slight);
-  n_bound = dep_low v c.in-6.is;
-}
+      dep_in = ((choosing (visited v) c.in-6.is).words, v.walks.slight);
+      n_bound = dep_low v c.in-6.is;
+    }
 
 pub lay-both-requires-in-6 : goal.lay-both-requires-in-6
 unfolding rules
@@ -409,20 +406,19 @@ tagged-slice_bounds-lay-end t c =
 
 pub tagged-lay-requires : goal.tagged-lay-requires
 unfolding rules
-tagged-lay-requires t c =
+tagged-lay-requires t c = (
+  omega (arith, c.decreases),
+  (
+    (c.requires.visits, raised_zero _ _),
     (
-      omega (arith, c.decreases),
-      (
-        (c.requires.visits, raised_zero _ _),
-        (
-          c.requires.left_bound.0,
-          omega (arith, c.requires.left_bound.1),
-          c.requires.left_bound.1,
-          lent_set c.args.s.tag
-              c.args.out.now c.requires.left_bound.2,
-        ),
-      ),
-    )
+      c.requires.left_bound.0,
+      omega (arith, c.requires.left_bound.1),
+      c.requires.left_bound.1,
+      lent_set c.args.s.tag
+          c.args.out.now c.requires.left_bound.2,
+    ),
+  ),
+)
 
 pub tagged-shape_of-out : goal.tagged-shape_of-out
 unfolding rules

@@ -1,9 +1,7 @@
 use mathlib.Core.Path.{refl}
 use mathlib.Core.Bool.{false≢true}
-use Prim.Native.Nat.{◌+◌, ◌-◌, ◌≤◌}
 use native.Mathlib.Omega.{arith}
 use borrow.Author.Tests.{leb-true}
-use Rattle.laying.specs.Sure.{Widths}
 use Rattle.laying.proofs.Sures.{widths_none, widths_more, sure_by}
 use Rattle.laying.proofs.sure.sure.Goals as goal
 
@@ -30,9 +28,9 @@ loop-k-init c =
 pub width_of-requires : goal.width_of-requires
 width_of-requires c =
     record {
-  k_in_bounds = omega (arith, c.requires);
-  widths = c.loop-k.invariant.0;
-}
+      k_in_bounds = omega (arith, c.requires);
+      widths = c.loop-k.invariant.0;
+    }
 
 pub loop-k-preserved : goal.loop-k-preserved
 loop-k-preserved c =

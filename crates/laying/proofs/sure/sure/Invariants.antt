@@ -1,12 +1,7 @@
 -- `laying::sure::sure` fills the widths node by node.
 -- Assumes nothing.
-use mathlib.Core.Path.{refl}
-use mathlib.Core.Bool.{false≢true}
 use Prim.Native.Nat.{◌+◌, ◌-◌, ◌≤◌}
-use native.Mathlib.Omega.{arith}
-use borrow.Author.Tests.{leb-true}
 use Rattle.laying.specs.Sure.{Widths}
-use Rattle.laying.proofs.Sures.{widths_none, widths_more, sure_by}
 use Rattle.laying.proofs.sure.sure.Given as goal
 
 abbrev pub invariant-loop-k : goal.invariant-loop-k

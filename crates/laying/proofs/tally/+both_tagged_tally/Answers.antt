@@ -1,5 +1,4 @@
 use mathlib.Core.Path.{refl, ◌∙◌}
-use Prim.Native.Nat.{ℕ, ◌+◌, ◌*◌, ◌<◌}
 use native.Mathlib.Omega.{arith}
 use Rattle.walk.proofs.Rooms.{tallied_deep, tallied_full, tallied_cell, left_within, two_stops, two_left}
 use Rattle.walk.proofs.Visit.{walk_deep, walk_cell, walk_pass, walk_tag, walk_two, visited, next_by}
@@ -143,9 +142,9 @@ unfolding rules
 tally-step-requires-in-5 t c =
     let v = visited c.requires.visits in let l = parts_by v c.in-5.is
     in record {
-  a_in_bounds = two_in v l;
-  nonzero = two_some v l;
-}
+      a_in_bounds = two_in v l;
+      nonzero = two_some v l;
+    }
 
 pub tally-both-requires : goal.tally-both-requires
 unfolding rules
@@ -158,13 +157,13 @@ pub tally-step-requires-in-6 : goal.tally-step-requires-in-6
 unfolding rules
 tally-step-requires-in-6 t c =
     record {
-  dep_in = (
+      dep_in = (
         (choosing (visited c.requires.visits)
             c.in-6.is).words,
         c.requires.visits.walks.slight,
       );
-  n_bound = dep_low c.requires.visits c.in-6.is;
-}
+      n_bound = dep_low c.requires.visits c.in-6.is;
+    }
 
 pub tally-both-requires-in-6 : goal.tally-both-requires-in-6
 unfolding rules

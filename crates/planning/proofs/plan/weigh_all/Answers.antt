@@ -1,7 +1,6 @@
 use borrow.Author.Rules.{rules}
-use Prim.Native.Nat.{◌-◌}
 use native.Mathlib.Omega.{arith}
-use Rattle.planning.proofs.Scan.{Weighing, weighing_none, weighing_more, weighing_fault, weighing_end}
+use Rattle.planning.proofs.Scan.{weighing_none, weighing_more, weighing_fault, weighing_end}
 use Rattle.planning.proofs.plan.weigh_all.Goals as goal
 
 pub loop-n-init : goal.loop-n-init
@@ -11,9 +10,9 @@ loop-n-init c =
 pub weigh-w-requires : goal.weigh-w-requires
 weigh-w-requires c =
     record {
-  used_value = c.used_words-used.ensures;
-  table_len = omega arith;
-}
+      used_value = c.used_words-used.ensures;
+      table_len = omega arith;
+    }
 
 pub returns-in-Fault : goal.returns-in-Fault
 returns-in-Fault c =

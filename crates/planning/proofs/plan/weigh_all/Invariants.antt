@@ -1,9 +1,7 @@
 -- `planning::plan::weigh_all` goes through the nodes, rising.
 -- Assumes nothing.
-use borrow.Author.Rules.{rules}
 use Prim.Native.Nat.{◌-◌}
-use native.Mathlib.Omega.{arith}
-use Rattle.planning.proofs.Scan.{Weighing, weighing_none, weighing_more, weighing_fault, weighing_end}
+use Rattle.planning.proofs.Scan.{Weighing}
 use Rattle.planning.proofs.plan.weigh_all.Given as goal
 
 abbrev pub invariant-loop-n : goal.invariant-loop-n

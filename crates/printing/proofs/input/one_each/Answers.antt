@@ -1,8 +1,6 @@
 use mathlib.Core.Path.{sym, ◌∙◌}
-use Prim.Native.Nat.{◌-◌}
 use native.Mathlib.Omega.{arith}
-use lib.ListN.{length}
-use Rattle.printing.proofs.input.Numbers.{Passing, one_within, pass_start, pass_more, pass_not, pass_end}
+use Rattle.printing.proofs.input.Numbers.{one_within, pass_start, pass_more, pass_not, pass_end}
 use Rattle.printing.proofs.input.one_each.Goals as goal
 
 pub loop-at-init : goal.loop-at-init

@@ -1,11 +1,8 @@
 -- `printing::input::one_each` passes line by line.
 -- Assumes nothing.
-use mathlib.Core.Path.{sym, ◌∙◌}
-use borrow.Author.Rules.{rules}
 use Prim.Native.Nat.{◌-◌}
-use native.Mathlib.Omega.{arith}
 use lib.ListN.{length}
-use Rattle.printing.proofs.input.Numbers.{Passing, one_within, pass_start, pass_more, pass_not, pass_end}
+use Rattle.printing.proofs.input.Numbers.{Passing}
 use Rattle.printing.proofs.input.one_each.Given as goal
 
 abbrev pub invariant-loop-at : goal.invariant-loop-at

@@ -1,8 +1,6 @@
 use mathlib.Core.Path.{sym, ◌∙◌}
-use Prim.Native.Nat.{◌-◌}
 use native.Mathlib.Omega.{arith}
-use lib.ListN.{length}
-use Rattle.printing.proofs.print.Cases.{Going, go_none, go_more, go_all}
+use Rattle.printing.proofs.print.Cases.{go_none, go_more, go_all}
 use Rattle.printing.proofs.input.Numbers.{one_within}
 use Rattle.printing.proofs.print.put_cases.Goals as goal
 

@@ -1,6 +1,4 @@
-use Prim.Native.Nat.{◌-◌}
-use lib.ListN.{length}
-use Rattle.row_calls.proofs.Asking.{Asking, ask_none, nearer, ask_more, ask_end, ask_refused}
+use Rattle.row_calls.proofs.Asking.{ask_none, nearer, ask_more, ask_end, ask_refused}
 use Rattle.rows.proofs.Values.{strode_is}
 use Rattle.row_calls.proofs.reader.call.Goals as goal
 

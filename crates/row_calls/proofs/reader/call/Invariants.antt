@@ -1,10 +1,8 @@
 -- `row_calls::reader::call` ends: each item moves the place on, and within the row.
 -- Assumes nothing.
-use borrow.Author.Rules.{rules}
 use Prim.Native.Nat.{◌-◌}
 use lib.ListN.{length}
-use Rattle.row_calls.proofs.Asking.{Asking, ask_none, nearer, ask_more, ask_end, ask_refused}
-use Rattle.rows.proofs.Values.{strode_is}
+use Rattle.row_calls.proofs.Asking.{Asking}
 use Rattle.row_calls.proofs.reader.call.Given as goal
 
 abbrev pub invariant-loop-found : goal.invariant-loop-found

@@ -1,9 +1,6 @@
-use Prim.Native.Nat.{◌-◌}
 use native.Mathlib.Omega.{arith}
-use lib.ListN.{length}
-use Rattle.grammar.specs.Plan.{rule_in}
 use Rattle.checked.proofs.Standing.{stood}
-use Rattle.rows.proofs.Gathering.{Storing, storing_none, same_length, storing_more, storing_full, storing_stops, storing_done}
+use Rattle.rows.proofs.Gathering.{storing_none, same_length, storing_more, storing_full, storing_stops, storing_done}
 use Rattle.rows.proofs.reading.gather_row.Goals as goal
 
 pub loop-at-init : goal.loop-at-init

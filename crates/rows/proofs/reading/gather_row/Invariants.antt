@@ -1,12 +1,9 @@
 -- `rows::reading::gather_row` reads the items in turn, over a buffer.
 -- Assumes nothing.
-use borrow.Author.Rules.{rules}
 use Prim.Native.Nat.{◌-◌}
-use native.Mathlib.Omega.{arith}
 use lib.ListN.{length}
 use Rattle.grammar.specs.Plan.{rule_in}
-use Rattle.checked.proofs.Standing.{stood}
-use Rattle.rows.proofs.Gathering.{Storing, storing_none, same_length, storing_more, storing_full, storing_stops, storing_done}
+use Rattle.rows.proofs.Gathering.{Storing}
 use Rattle.rows.proofs.reading.gather_row.Given as goal
 
 abbrev pub invariant-loop-at : goal.invariant-loop-at

@@ -1,8 +1,5 @@
-use Prim.Native.Nat.{◌-◌}
 use native.Mathlib.Omega.{arith}
-use lib.ListN.{length}
-use Rattle.grammar.specs.Plan.{rule_in}
-use Rattle.rows.proofs.WrittenInTurn.{Tallying, tallying_none, tallying_fits, tallying_more, tallying_stops, tallying_done}
+use Rattle.rows.proofs.WrittenInTurn.{tallying_none, tallying_fits, tallying_more, tallying_stops, tallying_done}
 use Rattle.rows.proofs.writing.decide_row.Goals as goal
 
 pub loop-item-init : goal.loop-item-init

@@ -1,11 +1,9 @@
 -- `rows::writing::decide_row` decides the items in turn.
 -- Assumes nothing.
-use borrow.Author.Rules.{rules}
 use Prim.Native.Nat.{◌-◌}
-use native.Mathlib.Omega.{arith}
 use lib.ListN.{length}
 use Rattle.grammar.specs.Plan.{rule_in}
-use Rattle.rows.proofs.WrittenInTurn.{Tallying, tallying_none, tallying_fits, tallying_more, tallying_stops, tallying_done}
+use Rattle.rows.proofs.WrittenInTurn.{Tallying}
 use Rattle.rows.proofs.writing.decide_row.Given as goal
 
 abbrev pub invariant-loop-item : goal.invariant-loop-item

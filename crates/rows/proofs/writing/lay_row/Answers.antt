@@ -1,9 +1,6 @@
 use mathlib.Core.Path.{refl}
-use Prim.Native.Nat.{◌-◌}
 use native.Mathlib.Omega.{arith}
-use lib.ListN.{length}
-use Rattle.grammar.specs.Plan.{rule_in}
-use Rattle.rows.proofs.WrittenInTurn.{Laying, laying_none, laying_long, laying_within, laying_fits, laying_more, laying_left, laying_stops, laying_done}
+use Rattle.rows.proofs.WrittenInTurn.{laying_none, laying_long, laying_within, laying_fits, laying_more, laying_left, laying_stops, laying_done}
 use Rattle.rows.proofs.writing.lay_row.Goals as goal
 
 pub loop-items-init : goal.loop-items-init

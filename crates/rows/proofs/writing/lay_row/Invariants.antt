@@ -1,12 +1,9 @@
 -- `rows::writing::lay_row` writes the items in turn.
 -- Assumes nothing.
-use borrow.Author.Rules.{rules}
-use mathlib.Core.Path.{refl}
 use Prim.Native.Nat.{◌-◌}
-use native.Mathlib.Omega.{arith}
 use lib.ListN.{length}
 use Rattle.grammar.specs.Plan.{rule_in}
-use Rattle.rows.proofs.WrittenInTurn.{Laying, laying_none, laying_long, laying_within, laying_fits, laying_more, laying_left, laying_stops, laying_done}
+use Rattle.rows.proofs.WrittenInTurn.{Laying}
 use Rattle.rows.proofs.writing.lay_row.Given as goal
 
 abbrev pub invariant-loop-items : goal.invariant-loop-items

@@ -10,15 +10,13 @@ passed-requires c =
     omega (arith, c.requires.2, cell_in c.cell_at.ensures c.in-Of.is)
 
 pub returns-in-Of : goal.returns-in-Of
-returns-in-Of c =
-    (
-      λ l. counted_low _ _ c.place_of.ensures c.passed.ensures l,
-      λ go. counted_placed _ c.cell_at.ensures go c.in-Of.is c.place_of.ensures c.requires.0 c.passed.ensures,
-    )
+returns-in-Of c = (
+  λ l. counted_low _ _ c.place_of.ensures c.passed.ensures l,
+  λ go. counted_placed _ c.cell_at.ensures go c.in-Of.is c.place_of.ensures c.requires.0 c.passed.ensures,
+)
 
 pub returns-in-Stops : goal.returns-in-Stops
-returns-in-Stops c =
-    (
-      λ l. absurd (omega (arith, cell_over c.cell_at.ensures c.in-Stops.is)),
-      λ go. counted_stops _ c.cell_at.ensures go c.in-Stops.is c.requires.1,
-    )
+returns-in-Stops c = (
+  λ l. absurd (omega (arith, cell_over c.cell_at.ensures c.in-Stops.is)),
+  λ go. counted_stops _ c.cell_at.ensures go c.in-Stops.is c.requires.1,
+)

@@ -1,5 +1,4 @@
 use mathlib.Core.Path.{refl, sym}
-use Prim.Native.Nat.{ℕ, ◌+◌, ◌*◌, ◌^◌, ◌<◌}
 use native.Mathlib.Nat.{add-zero}
 use native.Mathlib.Omega.{arith}
 use Rattle.walk.specs.Plan.{Reading}
@@ -47,12 +46,11 @@ both-returns-then-x-ge-BIG t c =
 
 pub both-join-requires : goal.both-join-requires
 unfolding rules
-both-join-requires t c =
-    (
-      reads_in c.requires.reading.0,
-      reads_in
-          c.requires.reading.1,
-    )
+both-join-requires t c = (
+  reads_in c.requires.reading.0,
+  reads_in
+      c.requires.reading.1,
+)
 
 pub both-returns : goal.both-returns
 unfolding rules
@@ -139,12 +137,11 @@ tagged-returns-then-m-ge-BIG t c =
 
 pub tagged-join-requires : goal.tagged-join-requires
 unfolding rules
-tagged-join-requires t c =
-    (
-      omega (arith, c.if-tag-ge-TAGS.false),
-      reads_in (side_of (Reading _ _) _ _ (c.requires.reading.1, c.requires.reading.0) c.counted-tag.result
-          c.sides_of-s.ensures.1),
-    )
+tagged-join-requires t c = (
+  omega (arith, c.if-tag-ge-TAGS.false),
+  reads_in (side_of (Reading _ _) _ _ (c.requires.reading.1, c.requires.reading.0) c.counted-tag.result
+      c.sides_of-s.ensures.1),
+)
 
 pub tagged-returns : goal.tagged-returns
 unfolding rules
@@ -215,12 +212,11 @@ take-bounds-plan-i-3 t c =
 
 pub take-counted-requires : goal.take-counted-requires
 unfolding rules
-take-counted-requires t c =
-    (
-      checked_by c.requires.reading c.in-0.is below_most,
-      c.requires.roomy.2,
-      c.requires.roomy.3,
-    )
+take-counted-requires t c = (
+  checked_by c.requires.reading c.in-0.is below_most,
+  c.requires.roomy.2,
+  c.requires.roomy.3,
+)
 
 pub take-any-requires : goal.take-any-requires
 unfolding rules
@@ -231,13 +227,13 @@ pub take-listed-requires : goal.take-listed-requires
 unfolding rules
 take-listed-requires t c =
     record {
-  b_bound = (
+      b_bound = (
         (checked_by c.requires.reading c.in-2.is pool_in).0,
         (checked_by c.requires.reading c.in-2.is pool_in).1,
         c.requires.reading.walks.slight,
       );
-  at_in_bounds = (c.requires.roomy.2, c.requires.roomy.3);
-}
+      at_in_bounds = (c.requires.roomy.2, c.requires.roomy.3);
+    }
 
 pub take-overflow_add-off : goal.take-overflow_add-off
 unfolding rules

@@ -1,6 +1,4 @@
-use Prim.Native.Nat.{◌-◌}
-use native.Mathlib.Omega.{arith}
-use Rattle.texts.proofs.line.Counting.{Counting, count_none, count_empty, count_start, count_not, count_over, count_lf, count_other, count_space}
+use Rattle.texts.proofs.line.Counting.{count_none, count_empty, count_start, count_not, count_over, count_lf, count_other, count_space}
 use Rattle.texts.proofs.line.Counting.{count_full}
 use Rattle.texts.proofs.line.count_at.Goals as goal
 

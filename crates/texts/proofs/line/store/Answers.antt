@@ -1,6 +1,5 @@
-use Prim.Native.Nat.{◌-◌}
 use native.Mathlib.Omega.{arith}
-use Rattle.texts.proofs.line.Storing.{Storing, store_start, store_same, store_end, store_not, store_within, store_more}
+use Rattle.texts.proofs.line.Storing.{store_start, store_same, store_end, store_not, store_within, store_more}
 use Rattle.texts.proofs.line.store.Goals as goal
 
 pub loop-k-init : goal.loop-k-init

@@ -1,9 +1,7 @@
 -- `texts::line::store` stores the numbers of a line: at each place passed, those stored and those of the rest.
 -- Assumes nothing.
-use borrow.Author.Rules.{rules}
 use Prim.Native.Nat.{◌-◌}
-use native.Mathlib.Omega.{arith}
-use Rattle.texts.proofs.line.Storing.{Storing, store_start, store_same, store_end, store_not, store_within, store_more}
+use Rattle.texts.proofs.line.Storing.{Storing}
 use Rattle.texts.proofs.line.store.Given as goal
 
 abbrev pub invariant-loop-k : goal.invariant-loop-k

@@ -1,8 +1,5 @@
 use mathlib.Core.Path.{refl}
-use Prim.Native.Nat.{◌-◌}
-use native.Mathlib.Omega.{arith}
-use lib.ListN.{length}
-use Rattle.texts.proofs.numeral.Runs.{SameEnd, end_over, end_low, end_high, end_more}
+use Rattle.texts.proofs.numeral.Runs.{end_over, end_low, end_high, end_more}
 use Rattle.texts.proofs.numeral.digits_end.Goals as goal
 
 pub loop-i-init : goal.loop-i-init

@@ -1,10 +1,8 @@
 -- `texts::numeral::digits_end` is the place after the run: at each place passed the end is the same.
 -- Assumes nothing.
-use mathlib.Core.Path.{refl}
 use Prim.Native.Nat.{◌-◌}
-use native.Mathlib.Omega.{arith}
 use lib.ListN.{length}
-use Rattle.texts.proofs.numeral.Runs.{SameEnd, end_over, end_low, end_high, end_more}
+use Rattle.texts.proofs.numeral.Runs.{SameEnd}
 use Rattle.texts.proofs.numeral.digits_end.Given as goal
 
 abbrev pub invariant-loop-i : goal.invariant-loop-i

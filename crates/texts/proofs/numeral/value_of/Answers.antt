@@ -1,6 +1,5 @@
-use Prim.Native.Nat.{◌-◌}
 use native.Mathlib.Omega.{arith}
-use Rattle.texts.proofs.numeral.Values.{Valued, valued_start, valued_at, valued_more, valued_past, valued_end}
+use Rattle.texts.proofs.numeral.Values.{valued_start, valued_at, valued_more, valued_past, valued_end}
 use Rattle.texts.proofs.numeral.value_of.Goals as goal
 
 pub loop-i-init : goal.loop-i-init

@@ -1,9 +1,7 @@
 -- `texts::numeral::value_of` is the value of a run: at each place passed, that of the digits so far and of the run from there.
 -- Assumes nothing.
-use borrow.Author.Rules.{rules}
 use Prim.Native.Nat.{◌-◌}
-use native.Mathlib.Omega.{arith}
-use Rattle.texts.proofs.numeral.Values.{Valued, valued_start, valued_at, valued_more, valued_past, valued_end}
+use Rattle.texts.proofs.numeral.Values.{Valued}
 use Rattle.texts.proofs.numeral.value_of.Given as goal
 
 abbrev pub invariant-loop-i : goal.invariant-loop-i

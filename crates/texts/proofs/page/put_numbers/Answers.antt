@@ -1,7 +1,4 @@
-use Prim.Native.Nat.{◌-◌}
-use lib.ListN.{length}
-use native.Mathlib.Omega.{arith}
-use Rattle.texts.proofs.page.Putting.{Listing, list_none, list_more, list_all}
+use Rattle.texts.proofs.page.Putting.{list_none, list_more, list_all}
 use Rattle.texts.proofs.page.put_numbers.Goals as goal
 
 pub loop-i-init : goal.loop-i-init

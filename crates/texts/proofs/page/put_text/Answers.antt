@@ -1,7 +1,5 @@
-use Prim.Native.Nat.{◌-◌}
-use lib.ListN.{length}
 use native.Mathlib.Omega.{arith}
-use Rattle.texts.proofs.page.Putting.{place_within, Putting, put_none, put_more, put_all}
+use Rattle.texts.proofs.page.Putting.{place_within, put_none, put_more, put_all}
 use Rattle.texts.proofs.page.put_text.Goals as goal
 
 pub loop-i-init : goal.loop-i-init

@@ -1,10 +1,8 @@
 -- `texts::page::put_text` puts byte by byte, each at a place within the page.
 -- Assumes nothing.
-use borrow.Author.Rules.{rules}
 use Prim.Native.Nat.{◌-◌}
 use lib.ListN.{length}
-use native.Mathlib.Omega.{arith}
-use Rattle.texts.proofs.page.Putting.{place_within, Putting, put_none, put_more, put_all}
+use Rattle.texts.proofs.page.Putting.{Putting}
 use Rattle.texts.proofs.page.put_text.Given as goal
 
 abbrev pub invariant-loop-i : goal.invariant-loop-i

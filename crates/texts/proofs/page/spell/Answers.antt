@@ -1,7 +1,7 @@
 use native.Mathlib.Omega.{arith}
 use lib.ListN.{length-set}
 use Rattle.texts.proofs.Decimals.{decimal_some}
-use Rattle.texts.proofs.page.Spelling.{Spelling, spell_start, spell_same, spell_at, spell_more, spell_end}
+use Rattle.texts.proofs.page.Spelling.{spell_start, spell_same, spell_at, spell_more, spell_end}
 use Rattle.texts.proofs.page.spell.Goals as goal
 
 pub overflow_sub-at : goal.overflow_sub-at

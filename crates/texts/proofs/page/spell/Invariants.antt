@@ -1,9 +1,6 @@
 -- `texts::page::spell` writes a number's digits: at each turn, the text of the rest and then what is written.
 -- Assumes nothing.
-use native.Mathlib.Omega.{arith}
-use lib.ListN.{length-set}
-use Rattle.texts.proofs.Decimals.{decimal_some}
-use Rattle.texts.proofs.page.Spelling.{Spelling, spell_start, spell_same, spell_at, spell_more, spell_end}
+use Rattle.texts.proofs.page.Spelling.{Spelling}
 use Rattle.texts.proofs.page.spell.Given as goal
 
 abbrev pub invariant-loop-rest : goal.invariant-loop-rest
