@@ -7,3 +7,6 @@ pub mod Cons
 pub mod Or
 pub mod Dep
 pub mod Except
+pub mod Power
+pub mod Tuple
+pub mod Weights

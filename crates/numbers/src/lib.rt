@@ -4,8 +4,12 @@
 
 pub mod cons;
 pub mod dep;
+pub mod divided;
 pub mod except;
 pub mod joined;
 pub mod or;
+pub mod power;
 pub mod root;
 pub mod size;
+pub mod tuple;
+pub mod union;
