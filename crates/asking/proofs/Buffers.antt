@@ -1,6 +1,6 @@
 -- The words of a lent buffer.
 --   filled_length, Filling, fill_none, fill_more, fill_all    start words, one by one
---   Looking, look-..                             words that have not changed
+--   Looking, look_..                             words that have not changed
 --   start_kept                                   start words that a call left have not
 --   end_changed, end_kept                        the end of a line
 --   end_done, end_left                           the end of the line of a call that wrote, and of one that did not

@@ -1,6 +1,6 @@
 -- Texts that are compared.
 --   same_long                     texts of two lengths are not the same
---   Comparing, compare-..         byte by byte
+--   Comparing, compare_..         byte by byte
 -- Assumes nothing.
 use mathlib.Core.Path.{◌≡◌, refl, sym, ap, ◌∙◌}
 use mathlib.Core.Bool.{Bool, true, false, ◌&&◌}

@@ -1,6 +1,6 @@
 -- What a line asks for, by its fields.
---   cells_not, -none, -many, -some             START and a row of cells are taken, or not
---   row_not, -few, -over, -some                START, ROOM and a row
+--   cells_not, _none, _many, _some             START and a row of cells are taken, or not
+--   row_not, _few, _over, _some                START, ROOM and a row
 --   no_cells_lem, cells_fit, cells_text            what a call prints, by what was taken
 --   no_row_lem, row_fits, room_within, room_lent, row_text    the same with a room
 --   not_lent, row_lent                         what the lent buffer holds

@@ -1,5 +1,5 @@
 -- The lines of an input, one after another.
---   after_past, after_within, next-..         the place after a line
+--   after_past, after_within, next_..         the place after a line
 --   Ending, end_none, end_more, end_lf, end_all    the bytes of a line
 --   table_none, table_half, table_both       what the two lines after `table` make known
 --   turn_table, turn_call                    what a line does

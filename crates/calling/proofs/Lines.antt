@@ -1,6 +1,6 @@
 -- The bytes of an input, one by one.
---   readable_long, -none, -last    an input as a whole
---   Sizing, sizing-..              the bytes before a space or LF
+--   readable_long, _none, _last    an input as a whole
+--   Sizing, sizing_..              the bytes before a space or LF
 -- Assumes nothing.
 use mathlib.Core.Path.{◌≡◌, refl, sym, ap, ◌∙◌}
 use mathlib.Core.Bool.{Bool, true, false}

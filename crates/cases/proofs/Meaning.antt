@@ -3,7 +3,7 @@
 -- lengths are right and whose nodes all pass, the verdict is 9 with the lowest node on an unguarded cycle, else 10 with the lowest except on a cycle, else
 -- accepted; a cycle is a path of any length from a node to itself.
 --   leads_is                       the computed test agrees with paths of any length
---   verdict_9, -10, -accepted      the verdict by the cycles
+--   verdict_9, _10, _accepted      the verdict by the cycles
 --   accepted_means                 an accepted table has neither
 --   accepted_small                 a node's size is 1 to 2^62 where it is finite
 -- Assumes nothing.

@@ -1,7 +1,7 @@
 -- Marks on safe nodes, by the facts that the code has.
---   run-..      the words of a run are tested
+--   run_..      the words of a run are tested
 --   one_asked, none_asked   one node is tested, if there is one
---   pass-..     the turns of a pass
+--   pass_..     the turns of a pass
 --   now_marked  a node whose steps are safe is marked
 --   Settled     nodes that are settled, rising; settled-..   its turns
 --   all_safe_lem    where no node is left, none is on a cycle

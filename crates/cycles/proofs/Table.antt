@@ -3,7 +3,7 @@
 --   cycle_in             a node on a cycle is in the table
 --   Passed               of the nodes below n, none that is asked is on a cycle
 --   lowest_again         the lowest node of a cycle is an again; lowest_except
---   cycles-..            the verdict on cycles, by what was found
+--   cycles_..            the verdict on cycles, by what was found
 -- Assumes nothing.
 use mathlib.Core.Path.{◌≡◌, sym, ◌∙◌}
 use mathlib.Core.Bool.{Bool, true, false, not, ◌&&◌, false≢true}

@@ -1,5 +1,5 @@
 -- Runs of the pool that a dep names.
---   lower-.., finite_run   the tests of a dep's seconds, by the facts that the code has
+--   lower_.., finite_run   the tests of a dep's seconds, by the facts that the code has
 -- Assumes nothing.
 use mathlib.Core.Path.{◌≡◌, sym, ◌∙◌}
 use mathlib.Core.Bool.{Bool, true, false, not, false≢true}

@@ -3,7 +3,7 @@
 --   Tally      what a pass over nodes cs shows of them: f of them are finite, with the sum s as far as it is measured
 --   not_lower  the row of seconds that are not all lower
 --   Passing    the pass over the first i words of a run, all of it lower nodes
---   turn-..    a turn of it; end-.. the row that it ends in
+--   turn_..    a turn of it; end-.. the row that it ends in
 -- Assumes nothing.
 use mathlib.Core.Path.{◌≡◌, refl, sym, ◌∙◌}
 use mathlib.Core.Bool.{Bool, true, false, not, ◌&&◌, false≢true}

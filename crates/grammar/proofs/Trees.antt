@@ -1,5 +1,5 @@
 -- How a rule's law is shown, piece by piece of its tree.
---   spell-..   a path to a number, built from its end
+--   spell_..   a path to a number, built from its end
 --   read_pick, names_pick    what holds of every path, and of every part, where the tree goes by a test
 -- Assumes nothing.
 use mathlib.Core.Path.{◌≡◌, refl, ap}

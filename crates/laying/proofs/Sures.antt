@@ -1,9 +1,9 @@
 -- Widths of nodes: what each bounds, by what its visits show, and a list of them that is filled node by node.
---   few-..      cells put together
+--   few_..      cells put together
 --   held_few    what items show, where their parts are bounded
---   width-..    the width of a node whose visits show a cell, a part, a tag and a part, or two parts
---   part-..     a place of the list, and one past it
---   widths-..   a list of widths that say nothing; one width more
+--   width_..    the width of a node whose visits show a cell, a part, a tag and a part, or two parts
+--   part_..     a place of the list, and one past it
+--   widths_..   a list of widths that say nothing; one width more
 --   sure_by     a width that fits the room
 -- Assumes nothing.
 use mathlib.Core.Path.{◌≡◌, refl, sym, ap, ◌∙◌}

@@ -1,7 +1,7 @@
 -- What the reading walk's calls ask, of what it has: a part at the same depth left, or one less.
 --   Bounds       of a depth left, of what shifts take off, and of a place in the row
 --   part_first   a first part, under the same shifts; part_next a later one, under none
---   visit-..     the same for the calls of a visit, one depth less
+--   visit_..     the same for the calls of a visit, one depth less
 -- Assumes nothing.
 use mathlib.Core.Path.{◌≡◌}
 use Prim.Native.Nat.{ℕ, ◌+◌, ◌-◌, ◌*◌, ◌^◌, ◌≤◌, ◌<◌}

@@ -1,8 +1,8 @@
 -- What a word of a reading walk says, and what is read where a cell or a part comes first.
 --   Seen, seen_row           what a word says that is no refusal
 --   restated                 what is read is the same, and a bound may be lowered
---   taken_done, -large, -number, -fails   nothing more is read: a number, or no case
---   cell-..                  a cell comes first: what the code has found of it
+--   taken_done, _large, _number, _fails   nothing more is read: a number, or no case
+--   cell_..                  a cell comes first: what the code has found of it
 --   first_stops, first_then  something comes first that has been read
 -- Assumes nothing.
 use mathlib.Core.Path.{◌≡◌, refl, sym, ap, subst, ◌∙◌}

@@ -1,9 +1,9 @@
 -- The nodes that read one cell: below, nats and pool. They read no part, so what parts read (`go`) does not matter.
---   passed-..    what is made of the number that a cell stands for
---   leaf-..      any of them: its cell is not there, or stands for a number or for none
---   counted-..   below
---   any-..       nats
---   listed-..    pool
+--   passed_..    what is made of the number that a cell stands for
+--   leaf_..      any of them: its cell is not there, or stands for a number or for none
+--   counted_..   below
+--   any_..       nats
+--   listed_..    pool
 -- Assumes nothing.
 use mathlib.Core.Path.{◌≡◌, refl}
 use mathlib.Core.Bool.{Bool, true, false}

@@ -1,9 +1,9 @@
 -- A visit of a reading walk by its node's tree: what is read, of what was read of the parts. `go` says what parts read.
 --   deep_taken, tree_taken, pass_taken   the visit itself: no depth left, a tree, a part alone
---   tag-..       a number below a count, and then what it leads to
---   part-..      a part, and then what its number leads to
---   last-..      the last part, and what is made of its number
---   two-..       a part, and a last one that may depend on its number
+--   tag_..       a number below a count, and then what it leads to
+--   part_..      a part, and then what its number leads to
+--   last_..      the last part, and what is made of its number
+--   two_..       a part, and a last one that may depend on its number
 -- Assumes nothing.
 use mathlib.Core.Path.{◌≡◌, refl, sym, ap, subst, ◌∙◌}
 use mathlib.Core.Bool.{Bool, true, false}

@@ -3,9 +3,9 @@
 --   below_by      a visit is at a number below the size of its rule
 --   checks_by, checked_by   its checks are passed, and what follows from them
 --   in_plan       a node's words are in the plan
---   reads-..      other nodes of the plan; two-.. of two parts
+--   reads_..      other nodes of the plan; two-.. of two parts
 --   known         there is no other kind
---   raised-..     what stands under a shift
+--   raised_..     what stands under a shift
 -- Assumes nothing.
 use mathlib.Core.Path.{◌≡◌, refl, sym, ap, subst, ◌∙◌}
 use mathlib.Core.Bool.{true, false, ◌||◌, false≢true}

@@ -1,5 +1,5 @@
 -- What a walk leaves of a room, put together from what its parts leave of it.
---   tallied-..               a room through no cell, one cell, two walks
+--   tallied_..               a room through no cell, one cell, two walks
 --   tallied_up               what is left does not depend on what the cells are
 --   cells_append             the cells of two walks
 --   word_left, word_stops    what a walk hands back, as a word

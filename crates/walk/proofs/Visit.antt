@@ -1,5 +1,5 @@
 -- A visit, over any rules: what it shows, by its items; and its parts may be visited.
---   walk-..     what a visit shows
+--   walk_..     what a visit shows
 --   visited     a node that may be visited is one of the plan
 --   Next        a part of a visit: it may be visited, at a number that is at most one more
 --   next_by     of each part of a visit

@@ -5,7 +5,7 @@
 --   none_ranked            of no parts
 --   lower_ranked, at_ranked   of one more, which is below the largest number, or is that
 --   all_ranked             of all of them: the tuple's number
---   lower, -fits, next-..  each sum and difference on the way is a word
+--   lower, _fits, next_..  each sum and difference on the way is a word
 -- Assumes nothing.
 use mathlib.Core.Path.{◌≡◌, refl, ap, ◌∙◌}
 use mathlib.Core.Bool.{Bool, true, false}

@@ -1,7 +1,7 @@
 -- The number at a place, by the tests that the code makes on its run of digits.
 --   at_none                 no digit
 --   at_first                a digit stands there
---   at-zero, at_leading     '0' alone, and '0' before other digits
+--   at_zero, at_leading     '0' alone, and '0' before other digits
 --   at_word, at_past        another digit first: the value decides
 -- Assumes nothing.
 use mathlib.Core.Path.{◌≡◌, refl, sym, ap, ◌∙◌}

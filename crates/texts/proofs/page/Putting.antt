@@ -1,6 +1,6 @@
 -- Texts put on a page, one behind another.
---   place_front, -in, -within      a byte goes within the page
---   one, _then_, told              a byte, a text behind another, and a text by another name
+--   place_front, _in, _within      a byte goes within the page
+--   one, ◌then◌, told              a byte, a text behind another, and a text by another name
 --   Putting, put_none, put_more    a text, byte by byte
 --   Listing, list_none, list_more  words, a space before each
 --   line_none, line_some           a line of numbers
