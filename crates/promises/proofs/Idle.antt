@@ -62,7 +62,7 @@ computed :
 unfolding walking fitted opening writes over front_of whole_of reads
 computed = (refl, refl, refl, refl, refl, refl)
 
-computed-rows :
+computed_rows :
     (writes_row L [] 5 4 (0 ∷ 0 ∷ []) ≡ Row-done 2 4)
     × (over (Written.row_of (rules_of L []) 5 (0 ∷ 0 ∷ [])) blank ≡ 0 ∷ 0 ∷ 0 ∷ 0 ∷ [])
     × (reads_row L [] 5 4 (0 ∷ 0 ∷ 0 ∷ 0 ∷ []) ≡ Row-done 2 4)
@@ -70,14 +70,14 @@ computed-rows :
     × (over (gotten (gather (rules_of L []) 5 4 (1 ∷ 0 ∷ 0 ∷ 0 ∷ []))) blank ≡ 1 ∷ 7 ∷ 7 ∷ 7 ∷ [])
     × (next_of L [] 5 (0 ∷ 0 ∷ []) 0 ≡ Item 0 2)
 unfolding walking fitted front_of opening writes_row Written.in_turn Written.row_of gather reads_row over next next_of
-computed-rows = (refl, refl, refl, refl, refl, refl)
+computed_rows = (refl, refl, refl, refl, refl, refl)
 
 -- a tag that changes with the number, and a pool word that does
-computed-cells :
+computed_cells :
     (over (Walk.cells (walk (rules_of two_or_nats []) 200 0 2 1)) blank ≡ 1 ∷ 0 ∷ 7 ∷ 7 ∷ [])
     × (over (Walk.cells (walk (rules_of two_words words) 200 0 0 1)) blank ≡ 4 ∷ 7 ∷ 7 ∷ 7 ∷ [])
 unfolding walking over
-computed-cells = (refl, refl)
+computed_cells = (refl, refl)
 
 -- ---- one that refuses everything
 pub check_refuses_everything : (r : Refusal) (k : ℕ) → answer (Refuses r k) ≡ check_says L [] → ⊥
@@ -90,53 +90,53 @@ pub read_refuses_everything : (r : Refusal) (k : ℕ) → read_of (Not-found r k
 read_refuses_everything r k h = let e = read_is _ _ _ _ h ∙ computed.5 in let z : ◌≡◌ {A = ℕ} 0 1 = cc in omega arith
 
 pub row_refuses_everything : {last : List ℕ} {r : Refusal} {k item : ℕ} → WroteRow L [] 5 (0 ∷ 0 ∷ []) blank last (Row-refused r k item) → ⊥
-row_refuses_everything h = let e = wrote_row_is h ∙ computed-rows.0 in let z : ◌≡◌ {A = ℕ} 0 1 = cc in omega arith
+row_refuses_everything h = let e = wrote_row_is h ∙ computed_rows.0 in let z : ◌≡◌ {A = ℕ} 0 1 = cc in omega arith
 
 pub row_read_refuses_everything : {last : List ℕ} {r : Refusal} {k item : ℕ} → GotRow L [] 5 (0 ∷ 0 ∷ 0 ∷ 0 ∷ []) blank last (Row-refused r k item) → ⊥
-row_read_refuses_everything h = let e = got_row_is h ∙ computed-rows.2 in let z : ◌≡◌ {A = ℕ} 0 1 = cc in omega arith
+row_read_refuses_everything h = let e = got_row_is h ∙ computed_rows.2 in let z : ◌≡◌ {A = ℕ} 0 1 = cc in omega arith
 
 pub reader_refuses_everything : {r : Refusal} {k at : ℕ} → Strode L [] 5 (0 ∷ 0 ∷ []) 0 (Not-handed r k) at → ⊥
-reader_refuses_everything h = let e = ap (λ (x : Stride). x.answer) (strode_is _ _ _ _ _ h) ∙ computed-rows.5 in let z : ◌≡◌ {A = ℕ} 0 1 = cc in omega arith
+reader_refuses_everything h = let e = ap (λ (x : Stride). x.answer) (strode_is _ _ _ _ _ h) ∙ computed_rows.5 in let z : ◌≡◌ {A = ℕ} 0 1 = cc in omega arith
 
 -- ---- number 0, or the same cells, each time
 pub number_0_each_time : read_of (Number 0) ≡ read_says L [] 5 (1 ∷ 0 ∷ 0 ∷ 0 ∷ []) → ⊥
 number_0_each_time h = let e : Number 0 ≡ Number 1 = read_is _ _ _ _ h ∙ computed.5 in let z : ◌≡◌ {A = ℕ} 0 1 = cc in omega arith
 
 pub zeros_stored : {m c : ℕ} → GotRow L [] 5 (1 ∷ 0 ∷ 0 ∷ 0 ∷ []) blank (0 ∷ 7 ∷ 7 ∷ 7 ∷ []) (Row-done m c) → ⊥
-zeros_stored h = let e = h.holds ∙ computed-rows.4 in let z : ◌≡◌ {A = ℕ} 0 1 = cc in omega arith
+zeros_stored h = let e = h.holds ∙ computed_rows.4 in let z : ◌≡◌ {A = ℕ} 0 1 = cc in omega arith
 
 pub same_cells_each_time : {k : ℕ} → Wrote L [] 5 1 blank (0 ∷ 0 ∷ 7 ∷ 7 ∷ []) (Done k) → ⊥
 same_cells_each_time h = let e = h.holds ∙ computed.3 in let z : ◌≡◌ {A = ℕ} 0 1 = cc in omega arith
 
 pub same_tag_each_time : {k : ℕ} → Wrote two_or_nats [] 2 1 blank (0 ∷ 0 ∷ 7 ∷ 7 ∷ []) (Done k) → ⊥
-same_tag_each_time h = let e = h.holds ∙ computed-cells.0 in let z : ◌≡◌ {A = ℕ} 0 1 = cc in omega arith
+same_tag_each_time h = let e = h.holds ∙ computed_cells.0 in let z : ◌≡◌ {A = ℕ} 0 1 = cc in omega arith
 
 pub same_word_each_time : {k : ℕ} → Wrote two_words words 0 1 blank (3 ∷ 7 ∷ 7 ∷ 7 ∷ []) (Done k) → ⊥
-same_word_each_time h = let e = h.holds ∙ computed-cells.1 in let z : ◌≡◌ {A = ℕ} 3 4 = cc in omega arith
+same_word_each_time h = let e = h.holds ∙ computed_cells.1 in let z : ◌≡◌ {A = ℕ} 3 4 = cc in omega arith
 
 -- ---- done, and nothing written
 pub done_and_nothing_written : {k : ℕ} → Wrote L [] 5 0 blank blank (Done k) → ⊥
 done_and_nothing_written h = let e = h.holds ∙ computed.2 in let z : ◌≡◌ {A = ℕ} 7 0 = cc in omega arith
 
 pub row_done_and_nothing_written : {m c : ℕ} → WroteRow L [] 5 (0 ∷ 0 ∷ []) blank blank (Row-done m c) → ⊥
-row_done_and_nothing_written h = let e = h.holds ∙ computed-rows.1 in let z : ◌≡◌ {A = ℕ} 7 0 = cc in omega arith
+row_done_and_nothing_written h = let e = h.holds ∙ computed_rows.1 in let z : ◌≡◌ {A = ℕ} 7 0 = cc in omega arith
 
 pub row_done_and_nothing_stored : {m c : ℕ} → GotRow L [] 5 (0 ∷ 0 ∷ 0 ∷ 0 ∷ []) blank blank (Row-done m c) → ⊥
-row_done_and_nothing_stored h = let e = h.holds ∙ computed-rows.3 in let z : ◌≡◌ {A = ℕ} 7 0 = cc in omega arith
+row_done_and_nothing_stored h = let e = h.holds ∙ computed_rows.3 in let z : ◌≡◌ {A = ℕ} 7 0 = cc in omega arith
 
 -- ---- item 0, and then pretending
 pub item_0_and_pretends : {m c : ℕ} → WroteRow L [] 5 (0 ∷ 0 ∷ []) blank (0 ∷ 0 ∷ 7 ∷ 7 ∷ []) (Row-done m c) → ⊥
-item_0_and_pretends h = let e = h.holds ∙ computed-rows.1 in let z : ◌≡◌ {A = ℕ} 7 0 = cc in omega arith
+item_0_and_pretends h = let e = h.holds ∙ computed_rows.1 in let z : ◌≡◌ {A = ℕ} 7 0 = cc in omega arith
 
 pub item_0_read_and_pretends : {m c : ℕ} → GotRow L [] 5 (0 ∷ 0 ∷ 0 ∷ 0 ∷ []) blank (0 ∷ 7 ∷ 7 ∷ 7 ∷ []) (Row-done m c) → ⊥
-item_0_read_and_pretends h = let e = h.holds ∙ computed-rows.3 in let z : ◌≡◌ {A = ℕ} 7 0 = cc in omega arith
+item_0_read_and_pretends h = let e = h.holds ∙ computed_rows.3 in let z : ◌≡◌ {A = ℕ} 7 0 = cc in omega arith
 
 -- ---- a made-up count
 pub made_up_count : {last : List ℕ} → Wrote L [] 5 1 blank last (Done 3) → ⊥
 made_up_count h = let e : Done 3 ≡ Done 4 = wrote_is h ∙ computed.4 in let z : ◌≡◌ {A = ℕ} 3 4 = cc in omega arith
 
 pub row_made_up_count : {last : List ℕ} → WroteRow L [] 5 (0 ∷ 0 ∷ []) blank last (Row-done 2 3) → ⊥
-row_made_up_count h = let e : Row-done 2 3 ≡ Row-done 2 4 = wrote_row_is h ∙ computed-rows.0 in let z : ◌≡◌ {A = ℕ} 3 4 = cc in omega arith
+row_made_up_count h = let e : Row-done 2 3 ≡ Row-done 2 4 = wrote_row_is h ∙ computed_rows.0 in let z : ◌≡◌ {A = ℕ} 3 4 = cc in omega arith
 
 pub row_read_made_up_count : {last : List ℕ} → GotRow L [] 5 (0 ∷ 0 ∷ 0 ∷ 0 ∷ []) blank last (Row-done 1 4) → ⊥
-row_read_made_up_count h = let e : Row-done 1 4 ≡ Row-done 2 4 = got_row_is h ∙ computed-rows.2 in let z : ◌≡◌ {A = ℕ} 1 2 = cc in omega arith
+row_read_made_up_count h = let e : Row-done 1 4 ≡ Row-done 2 4 = got_row_is h ∙ computed_rows.2 in let z : ◌≡◌ {A = ℕ} 1 2 = cc in omega arith
