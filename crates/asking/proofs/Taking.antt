@@ -67,7 +67,8 @@ few_of [] next l = refl
 few_of (i ∷ []) next l = refl
 few_of (i ∷ m ∷ ws) next l = absurd (omega arith)
 
-over_of : (ns : List ℕ) (next : ℕ) (d : List ℕ) {ws : List ℕ} → ws ≡ ns ++ d → length ns ≤ most_fields → most_room < get_or ws 1 0 → no_row ≡ row_of (numbers ns next)
+over_of : (ns : List ℕ) (next : ℕ) (d : List ℕ) {ws : List ℕ} → ws ≡ ns ++ d → length ns ≤ most_fields → most_room < get_or ws 1 0
+    → no_row ≡ row_of (numbers ns next)
 over_of [] next d h hi l = refl
 over_of (i ∷ []) next d h hi l = refl
 over_of (i ∷ m ∷ ws) next d h hi l = rw (le-leb (length ws) most_row (omega arith), lt-leb m most_room (rw h at l))
@@ -164,5 +165,6 @@ module _ {rest old last : List ℕ} {r : Lent} (k : TakesRow rest old last r) wh
     pub row_text : (f : ℕ → ℕ → List ℕ → List ℕ) → f i room (take (count - 2) (drop 2 last)) ≡ with_row f (row_of (fields_of rest))
     row_text f = ap (with_row f) (ap (row_in last) (sym e) ∙ k.asks)
 
-    pub row_lent : (f : ℕ → ℕ → List ℕ → List ℕ → List ℕ) (old : List ℕ) → f i room (take (count - 2) (drop 2 last)) old ≡ lent_by f (row_of (fields_of rest)) old
+    pub row_lent : (f : ℕ → ℕ → List ℕ → List ℕ → List ℕ) (old : List ℕ)
+        → f i room (take (count - 2) (drop 2 last)) old ≡ lent_by f (row_of (fields_of rest)) old
     row_lent f old = ap (λ (x : RowAsked). lent_by f x old) (ap (row_in last) (sym e) ∙ k.asks)

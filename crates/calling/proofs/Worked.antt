@@ -66,7 +66,7 @@ prints =
 worked : map asked prints ≡ map expected prints
 unfolding walking fitted opening front_of whole_of writes reads writes_row Written.in_turn Written.row_of gather reads_row next next_of run value_from
     well_formed numeral decimal_by decimal ended words number_of_word numbers_of line_at unreadable_text number_line item_text refused_text
-    refused_line refused_item items_text spaced cells_text readable word_size same check_text check_call found_text read_text read_call write_text case_text alone
-    write_call row_text write_row_text write_row_call read_row_text read_row_call asks_by asks_text reader_call chosen line_text line_size after line_of table_at said_at
-    next_at next_known printed_by printed
+    refused_line refused_item items_text spaced cells_text readable word_size same check_text check_call found_text read_text read_call write_text
+    case_text alone write_call row_text write_row_text write_row_call read_row_text read_row_call asks_by asks_text reader_call chosen line_text line_size
+    after line_of table_at said_at next_at next_known printed_by printed
 worked = refl

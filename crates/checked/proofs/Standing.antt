@@ -35,10 +35,6 @@ take_few l {k} e =
     ⊎_elim (λ u. let f : k ≡ length l = omega arith in rw f (take-length l ∙ sym (take_all most l u))) (λ u. let f : k ≡ most = omega arith in rw f)
     (le_or_lt (length l) most)
 
--- what either arm of the code shows where they meet
-pub either : {A B C D : Type 0} → A ⊎ B → (A → C) → (B → D) → C ⊎ D
-either w f g = ⊎_elim (λ a. inl (f a)) (λ b. inr (g b)) w
-
 -- ---- what stands at a place, by the answer's constructor
 pub stood : {f : Front} {cells : List ℕ} {at : ℕ} {r k : Item} → Stood f cells at r → r ≡ k → StoodBy f cells at k
 stood {f} {cells} {at} w e = subst (StoodBy f cells at) e w.is

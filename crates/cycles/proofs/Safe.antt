@@ -37,7 +37,8 @@ module _ (marks : List ℕ) (k : ℕ) where
 
 -- ---- the words of a run
 module _ (marks p : List ℕ) (at count : ℕ) (in_p : at + count ≤ length p) where
-  pub run_safe_lem : {i : ℕ} → Upto (λ j. get_or marks (get_or p (at + j) 0) 0 ≡ 0 → ⊥) count i → count ≤ i → true ≡ every (is_marked marks) (take count (drop at p))
+  pub run_safe_lem : {i : ℕ} → Upto (λ j. get_or marks (get_or p (at + j) 0) 0 ≡ 0 → ⊥) count i → count ≤ i
+      → true ≡ every (is_marked marks) (take count (drop at p))
   run_safe_lem h l = run_every p at count in_p (is_marked marks) (λ j m. is_marked_lem marks (get_or p (at + j) 0) (h.all j (omega arith)))
 
   pub run_not : (i : ℕ) → i < count → get_or marks (get_or p (at + i) 0) 0 ≡ 0 → false ≡ every (is_marked marks) (take count (drop at p))
@@ -79,8 +80,8 @@ module _ {t p plan : List ℕ} where
   module _ {marks : List ℕ} (n : ℕ) (s : SafeMarks t p plan marks) {b : Bool} (asked : b ≡ every (is_marked marks) (steps_of false t p (size_in plan) n))
       (yes : b ≡ true) where
     stepped : (m : ℕ) → Step false t p (size_in plan) n m → Safe t p plan m
-    stepped m i = s.safe m (eqb-false (get_or marks m 0) 0 (not-true (eqb (get_or marks m 0) 0) (every_mem (is_marked marks) m (steps_of false t p (size_in plan) n)
-        (sym asked ∙ yes) i)))
+    stepped m i = s.safe m (eqb-false (get_or marks m 0) 0 (not-true (eqb (get_or marks m 0) 0)
+        (every_mem (is_marked marks) m (steps_of false t p (size_in plan) n) (sym asked ∙ yes) i)))
 
     here : Safe t p plan n
     here = record { never = to_no_cycle (λ m i. (stepped m i).never) }
@@ -94,7 +95,8 @@ module _ {t p plan : List ℕ} where
     pub pass_safe : {left : ℕ} → SafePass t p plan marks n left → SafePass t p plan (set marks n 1) (n + 1) left
     pass_safe q = record { marked = now_marked; all = λ e. below_more _ n (q.all e) here }
 
-  pub all_safe_lem : {marks : List ℕ} {left : ℕ} → Ready t p plan → SafePass t p plan marks (nodes t) left → left ≤ 0 → (n : ℕ) → Unguarded t p (size_in plan) n → ⊥
+  pub all_safe_lem : {marks : List ℕ} {left : ℕ} → Ready t p plan → SafePass t p plan marks (nodes t) left → left ≤ 0 → (n : ℕ)
+      → Unguarded t p (size_in plan) n → ⊥
   all_safe_lem r s l n q = (s.all (omega arith) n (cycle_in false r.checked n q)).never n q q
 
 -- ---- nodes that are settled, rising

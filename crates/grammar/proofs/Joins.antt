@@ -30,7 +30,8 @@ pub record Summing (plan p : List ℕ) (at m sum j : ℕ) : Type 0 where
 pub summing_none : {plan p : List ℕ} {at m : ℕ} → Summing plan p at m 0 0
 summing_none = record { le = omega arith; is = omega arith }
 
-module _ {plan p : List ℕ} {at m sum j : ℕ} (in_p : at + m ≤ length p) (f : (i : ℕ) → i < m → word_at plan p at i < 2 ^ 63) (s : Summing plan p at m sum j) where
+module _ {plan p : List ℕ} {at m sum j : ℕ} (in_p : at + m ≤ length p) (f : (i : ℕ) → i < m → word_at plan p at i < 2 ^ 63)
+    (s : Summing plan p at m sum j) where
   module _ (l : j < m) where
     here : total (counts (size_in plan) (drop j (take m (drop at p)))) ≡ word_at plan p at j + total (counts (size_in plan) (drop (suc j) (take m (drop at p))))
     unfolding total
@@ -66,7 +67,8 @@ module _ {plan p : List ℕ} {a b x : ℕ} (d : DepIn plan p a b) (chosen : x < 
     pub few_sum : total (counts (size_in plan) (take x (drop b p))) < 2 ^ 63
     few_sum = rw (← before_is) (omega (arith, d.sum h, total_take (counts (size_in plan) (take (firsts plan a) (drop b p))) x))
 
-    pub finite_join : (y : ℕ) → total (counts (size_in plan) (take x (drop b p))) + y ≡ Dep.join (seconds_of (size_in plan) (take (firsts plan a) (drop b p))) x y
+    pub finite_join : (y : ℕ) → total (counts (size_in plan) (take x (drop b p))) + y
+        ≡ Dep.join (seconds_of (size_in plan) (take (firsts plan a) (drop b p))) x y
     unfolding seconds_of Dep.join
     finite_join y = rw (← not_endless d h, before_is)
 

@@ -104,7 +104,8 @@ module _ {plan p : List ℕ} {a b : ℕ} (d : DepIn plan p a b) where
   endless_split h n = rw (d.endless h, run_long p b (firsts plan a) d.inside)
 
 -- ---- a visit: q is its split, and its first part's number is below that part's size
-module _ {plan p : List ℕ} {a b : ℕ} (d : DepIn plan p a b) (n : ℕ) {q : Pair} (e : q ≡ Dep.split (seconds_of (size_in plan) (take (firsts plan a) (drop b p))) n)
+module _ {plan p : List ℕ} {a b : ℕ} (d : DepIn plan p a b) (n : ℕ) {q : Pair}
+    (e : q ≡ Dep.split (seconds_of (size_in plan) (take (firsts plan a) (drop b p))) n)
     (l : (Dep.split (seconds_of (size_in plan) (take (firsts plan a) (drop b p))) n).first < firsts plan a) where
   first_low : q.first < firsts plan a
   first_low = rw e l

@@ -31,7 +31,8 @@ module _ (plan : List ℕ) (n kind a b w : ℕ) where
   abbrev put3 : List ℕ
   put3 = set put2 (4 * n + 2) b
 
-  row_other : (i : ℕ) → (i ≡ 4 * n → ⊥) → (i ≡ 4 * n + 1 → ⊥) → (i ≡ 4 * n + 2 → ⊥) → (i ≡ 4 * n + 3 → ⊥) → get_or (rowed plan n kind a b w) i 0 ≡ get_or plan i 0
+  row_other : (i : ℕ) → (i ≡ 4 * n → ⊥) → (i ≡ 4 * n + 1 → ⊥) → (i ≡ 4 * n + 2 → ⊥) → (i ≡ 4 * n + 3 → ⊥)
+      → get_or (rowed plan n kind a b w) i 0 ≡ get_or plan i 0
   row_other i f0 f1 f2 f3 =
       get_or-set_other put3 (4 * n + 3) i w 0 f3 ∙ (get_or-set_other put2 (4 * n + 2) i b 0 f2
       ∙ (get_or-set_other put1 (4 * n + 1) i a 0 f1 ∙ get_or-set_other plan (4 * n) i kind 0 f0))

@@ -49,8 +49,8 @@ module _ {t p old plan : List ℕ} {n : ℕ} (c : Weighing t p old n plan) (l : 
   here : w ≡ coded (row_at t p (size_at c.zs) n)
   here = e ∙ ap (λ (z : ℕ → Size). coded (row_at t p z n)) (plan_sizes c.plans)
 
-  turn : (s : Size) → row_at t p (size_at c.zs) n ≡ sized s → {m : ℕ} {next : List ℕ} → m ≡ code_of s → next ≡ rowed plan n (kind_of t n) (a_of t n) (b_of t n) m
-      → Weighing t p old (n + 1) next
+  turn : (s : Size) → row_at t p (size_at c.zs) n ≡ sized s → {m : ℕ} {next : List ℕ} → m ≡ code_of s
+      → next ≡ rowed plan n (kind_of t n) (a_of t n) (b_of t n) m → Weighing t p old (n + 1) next
   unfolding scan onward
   turn s r q g =
       let m = row_fit t p (size_at c.zs) n r c.plans.fit in

@@ -19,7 +19,8 @@ use Rattle.grammar.proofs.laws.{laws, unknown_law}
 use Rattle.grammar.proofs.Opened.{checking}
 use Rattle.walk.specs.Plan.{Walkable, Visits}
 
-module _ (plan p : List ℕ) (count : ℕ) (holds : (i : ℕ) → i < count → Holds ((kind_in (kind_word plan i)).checks (node_in plan p count i) (before (size_in plan) i)))
+module _ (plan p : List ℕ) (count : ℕ)
+    (holds : (i : ℕ) → i < count → Holds ((kind_in (kind_word plan i)).checks (node_in plan p count i) (before (size_in plan) i)))
     (sized : (i : ℕ) → i < count → size_in plan i ≡ (rule_in plan p i).size) (fit : (i : ℕ) → i < count → Fit (size_in plan i)) where
   -- a fix is endless, whatever its node
   fixes : (i : ℕ) → i < count → kind_word plan i ≡ 8 → size_in plan i ≡ endless

@@ -77,7 +77,8 @@ module _ (plan p : List ℕ) (a b left off : ℕ) {row : List ℕ} {at e x : ℕ
         tag_then go off branches 2 none (h go) (omega arith) (side x l)
         (last_stays go (joined x) (Ors.turn_least x (size_in plan (other x))) at_part (omega arith) big)
 
-    pub or_number : y < 2 ^ 63 → {o w : ℕ} → o ≡ other x → w ≡ word_of (capped (Or.turn x (size_in plan o) y)) → TakenBy or_kind plan p a b left off row at next w
+    pub or_number : y < 2 ^ 63 → {o w : ℕ} → o ≡ other x → w ≡ word_of (capped (Or.turn x (size_in plan o) y))
+        → TakenBy or_kind plan p a b left off row at next w
     unfolding or_rule
     or_number small {o} {w} f g =
         tag_then go off branches 2 none (h go) (omega arith) (side x l)

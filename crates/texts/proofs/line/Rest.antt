@@ -166,8 +166,8 @@ module _ (text : List ℕ) (i : ℕ) where
       unfolding rest_at
       rest_other f g =
           rw (behind end, byte)
-          (at_other i (run (drop i text)) (run_digits (drop i text)) (get_or text e 0) (drop (e + 1) text) (rw byte at (stops end)) (ne_eqb (get_or text e 0) 10 f)
-          (ne_eqb (get_or text e 0) 32 g))
+          (at_other i (run (drop i text)) (run_digits (drop i text)) (get_or text e 0) (drop (e + 1) text) (rw byte at (stops end))
+          (ne_eqb (get_or text e 0) 10 f) (ne_eqb (get_or text e 0) 32 g))
 
 -- ---- a line and its rest
 module _ (text : List ℕ) (at : ℕ) where

@@ -26,14 +26,16 @@ slice_bounds-read-start c =
 pub slice_bounds-read-end : goal.slice_bounds-read-end
 unfolding found_text read_call
 slice_bounds-read-end c =
-    omega (arith, cells_fit c.take_cells.ensures c.in-Asked.is, c.words-2-1.given)
+    omega (arith, cells_fit c.take_cells.ensures c.in-Asked.is)
 
 pub returns-in-Number : goal.returns-in-Number
 unfolding found_text read_call
 returns-in-Number c =
-    let said = read_text_lem _ _ c.take_cells.ensures c.in-Asked.is (read_is _ _ _ _ c.read.ensures) c.in-Number.is in record { puts = told said c.number_line.ensures; leaves = c.take_cells.ensures.leaves }
+    let said = read_text_lem _ _ c.take_cells.ensures c.in-Asked.is (read_is _ _ _ _ c.read.ensures) c.in-Number.is in
+    record { puts = told said c.number_line.ensures; leaves = c.take_cells.ensures.leaves }
 
 pub returns-in-Refused : goal.returns-in-Refused
 unfolding found_text read_call
 returns-in-Refused c =
-    let said = read_text_lem _ _ c.take_cells.ensures c.in-Asked.is (read_is _ _ _ _ c.read.ensures) c.in-Refused.is in record { puts = told said c.refused_line.ensures; leaves = c.take_cells.ensures.leaves }
+    let said = read_text_lem _ _ c.take_cells.ensures c.in-Asked.is (read_is _ _ _ _ c.read.ensures) c.in-Refused.is in
+    record { puts = told said c.refused_line.ensures; leaves = c.take_cells.ensures.leaves }

@@ -30,7 +30,7 @@ slice_bounds-numbers-start c =
 pub slice_bounds-numbers-end : goal.slice_bounds-numbers-end
 unfolding write_call
 slice_bounds-numbers-end c =
-    omega (arith, row_fits c.take_row.ensures c.in-Asked.is, c.words-2-1.given)
+    omega (arith, row_fits c.take_row.ensures c.in-Asked.is)
 
 pub returns-then-numbers-ne1 : goal.returns-then-numbers-ne1
 unfolding write_call

@@ -8,7 +8,7 @@ use Rattle.case_calls.proofs.write.call.Goals as goal
 
 pub listed_line-requires : goal.listed_line-requires
 listed_line-requires c =
-    omega (arith, written_fits c.write.ensures _ c.in-Done.is, c.cells-2-1.given)
+    omega (arith, written_fits c.write.ensures _ c.in-Done.is)
 
 pub returns-in-Done : goal.returns-in-Done
 returns-in-Done c =

@@ -205,8 +205,7 @@ lay-step-requires-in-4 t c =
 pub lay-tagged-requires : goal.lay-tagged-requires
 unfolding rules
 lay-tagged-requires t c =
-    let
-    v = c.requires.visits.0 in let near = c.requires.left_bound in to_tagged c.decreases c.if-left-eq0.false (near.0, near.2, near.3)
+    let v = c.requires.visits.0 in let near = c.requires.left_bound in to_tagged c.decreases c.if-left-eq0.false (near.0, near.2, near.3)
     (next_by v (items_by v c.in-4.is c.step-in-4.ensures)).0
 
 pub lay-step-requires-in-5 : goal.lay-step-requires-in-5
@@ -221,8 +220,7 @@ lay-step-requires-in-5 t c =
 pub lay-both-requires : goal.lay-both-requires
 unfolding rules
 lay-both-requires t c =
-    let
-    v = c.requires.visits.0 in let n = next_by v (items_by v c.in-5.is c.step-in-5.ensures) in
+    let v = c.requires.visits.0 in let n = next_by v (items_by v c.in-5.is c.step-in-5.ensures) in
     let near = c.requires.left_bound in to_both c.decreases c.if-left-eq0.false (near.0, near.2, near.3) n.0 n.1.0
 
 pub lay-step-requires-in-6 : goal.lay-step-requires-in-6
@@ -247,8 +245,7 @@ lay-split-requires t c =
 pub lay-lay-requires-in-7 : goal.lay-lay-requires-in-7
 unfolding rules
 lay-lay-requires-in-7 t c =
-    let
-    v = c.requires.visits.0 in lay_part _ c.decreases c.if-left-eq0.false c.requires.left_bound (next_by v
+    let v = c.requires.visits.0 in lay_part _ c.decreases c.if-left-eq0.false c.requires.left_bound (next_by v
     (items_by v c.in-7.is (part_at c.split.ensures))).0
 
 pub lay-lay-requires-in-8 : goal.lay-lay-requires-in-8

@@ -22,7 +22,9 @@ both-returns-then-rest-ge-TOO_DEEP t c =
 pub both-tally-requires : goal.both-tally-requires
 unfolding rules
 both-tally-requires t c =
-    (omega (arith, c.decreases), (c.requires.visits_two.1, (c.requires.left_bound.1, c.requires.left_bound.2, omega (arith, c.requires.left_bound.3, left_within _ c.tally-rest.ensures c.if-rest-ge-TOO_DEEP.false))))
+    let l = c.requires.left_bound in
+    let room = left_within _ c.tally-rest.ensures c.if-rest-ge-TOO_DEEP.false in
+    (omega (arith, c.decreases), (c.requires.visits_two.1, (l.1, l.2, omega (arith, l.3, room))))
 
 pub both-returns : goal.both-returns
 unfolding rules

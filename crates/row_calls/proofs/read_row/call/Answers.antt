@@ -7,7 +7,7 @@ use Rattle.row_calls.proofs.read_row.call.Goals as goal
 
 pub done_line-requires : goal.done_line-requires
 done_line-requires c =
-    omega (arith, got_fits c.read_row.ensures c.in-Done.is, c.numbers-2-1.given)
+    omega (arith, got_fits c.read_row.ensures c.in-Done.is)
 
 pub returns-in-Done : goal.returns-in-Done
 returns-in-Done c =

@@ -24,7 +24,7 @@ slice_bounds-call-start c =
 pub slice_bounds-call-end : goal.slice_bounds-call-end
 unfolding reader_call
 slice_bounds-call-end c =
-    omega (arith, cells_fit c.take_cells.ensures c.in-Asked.is, c.words-2-1.given)
+    omega (arith, cells_fit c.take_cells.ensures c.in-Asked.is)
 
 pub returns : goal.returns
 unfolding reader_call

@@ -31,7 +31,7 @@ slice_bounds-call-start c =
 pub slice_bounds-call-end : goal.slice_bounds-call-end
 unfolding write_row_text write_row_call
 slice_bounds-call-end c =
-    omega (arith, row_fits c.take_row.ensures c.in-Asked.is, c.words-2-1.given)
+    omega (arith, row_fits c.take_row.ensures c.in-Asked.is)
 
 pub slice_bounds-call-end-2 : goal.slice_bounds-call-end-2
 unfolding write_row_text write_row_call

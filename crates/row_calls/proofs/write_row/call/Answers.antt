@@ -7,7 +7,7 @@ use Rattle.row_calls.proofs.write_row.call.Goals as goal
 
 pub done_line-requires : goal.done_line-requires
 done_line-requires c =
-    omega (arith, row_fits c.write_row.ensures c.in-Done.is, c.cells-2-1.given)
+    omega (arith, row_fits c.write_row.ensures c.in-Done.is)
 
 pub returns-in-Done : goal.returns-in-Done
 returns-in-Done c =
