@@ -6,9 +6,8 @@
 ghost use Rattle.std.specs.Prelude.{◌<◌, ◌≤◌, ◌^◌};
 ghost use Rattle.numbers.specs.Joined.{limit};
 
-use numbers::joined::Joined;
 use numbers::or::Part;
-use numbers::size::{ENDLESS, Measured};
+use numbers::size::ENDLESS;
 use numbers::{cons, except, or, root, size};
 
 // Standard output's number, as the system has it.
@@ -31,18 +30,18 @@ fn say_size(s: u64) {
     }
 }
 
-fn say_joined(j: Joined) {
+fn say_joined(j: Option<u64>) {
     match j {
-        Joined::Exact(n) => say_number(n),
-        Joined::Big => say(b" big"),
+        Some(n) => say_number(n),
+        None => say(b" big"),
     }
     say(b"\n");
 }
 
-fn say_measured(m: Measured) {
+fn say_measured(m: Option<u64>) {
     match m {
-        Measured::Of(s) => say_size(s),
-        Measured::Past => say(b" past 2^62"),
+        Some(s) => say_size(s),
+        None => say(b" past 2^62"),
     }
     say(b"\n");
 }

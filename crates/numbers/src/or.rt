@@ -4,10 +4,10 @@ ghost use Rattle.numbers.specs.Size.{size_of};
 ghost use Rattle.numbers.specs.Joined.{capped};
 ghost use Rattle.numbers.specs.Or.{alternate, split, join, turn};
 
-use super::joined::{Joined, LIMIT, cap};
+use super::joined::{cap, product_and};
 
 // A part and a number in it.
-#[derive(Drop)]
+#[derive(Clone, Copy, Debug, PartialEq, Eq)]
 pub enum Part {
     First(u64),
     Second(u64),
@@ -40,7 +40,7 @@ pub fn split(s: u64, t: u64, n: u64) -> Part
     Part::First(n - t)
 }
 
-pub fn join(s: u64, t: u64, p: Part) -> Joined
+pub fn join(s: u64, t: u64, p: Part) -> Option<u64>
     ensures { result ≡ capped (join (size_of s) (size_of t) p) }
 {
     match p {
@@ -50,15 +50,12 @@ pub fn join(s: u64, t: u64, p: Part) -> Joined
 }
 
 // Number m of part b, 0 or 1, where the other part has size u.
-pub fn turned(b: u64, u: u64, m: u64) -> Joined
-    requires { b ≤ 1 }
+pub fn turned(b: u64, u: u64, m: u64) -> Option<u64>
     ensures { result ≡ capped (turn b (size_of u) m) }
 {
-    if LIMIT <= m {
-        return Joined::Big;
-    }
     if m < u {
-        return cap(2 * m + b);
+        product_and(m, 2, b)
+    } else {
+        cap(m.checked_add(u)?)
     }
-    cap(m + u)
 }

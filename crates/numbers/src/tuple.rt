@@ -6,7 +6,7 @@ ghost use Rattle.numbers.specs.Pick.{pick};
 ghost use Rattle.numbers.specs.Tuple.{largest, tail, join, Splits};
 ghost use Rattle.numbers.specs.Weights.{Weights};
 
-use super::joined::{Joined, cap};
+use super::joined::cap;
 use super::power::{most, root};
 
 pub const MOST_PARTS: usize = 8;
@@ -115,13 +115,13 @@ fn number(parts: &[u64; MOST_PARTS], t: usize, r: u64) -> u64
 }
 
 // Past the largest root the power alone is past the limit.
-pub fn join(parts: &[u64; MOST_PARTS], t: usize) -> Joined
+pub fn join(parts: &[u64; MOST_PARTS], t: usize) -> Option<u64>
     requires { (3 ≤ t) × (t ≤ 8) × (length parts.now ≡ 8) }
     ensures { result ≡ capped (join (take t parts.now)) }
 {
     let r = largest(parts, t);
     if most(t) < r {
-        return Joined::Big;
+        return None;
     }
     cap(number(parts, t, r))
 }

@@ -6,12 +6,12 @@ use native.Mathlib.Omega.{arith}
 use borrow.Author.Tests.{lt-ltb, le-ltb}
 use Rattle.numbers.specs.Size.{endless, size_of}
 use Rattle.numbers.specs.Cons.{join}
-use Rattle.numbers.specs.declared.joined.Joined.{Joined}
+use Rattle.std.specs.Prelude.{Option}
 use Rattle.numbers.proofs.cons.Arms.{first_fast, second_fast, both_endless}
 use Rattle.numbers.specs.Joined.{capped}
 use Rattle.numbers.proofs.cons.join.Goals as goal
 
-module _ (i j x y : ℕ) (r : Joined) where
+module _ (i j x y : ℕ) (r : Option ℕ) where
   first : i < 2 ^ 63 → i < j → r ≡ capped (y * i + x) → r ≡ capped (join (size_of i) (size_of j) x y)
   unfolding join
   first h l e = first_fast (λ s t. capped (join s t x y)) i j r h e (rw (lt-ltb i j l) e)
