@@ -11,6 +11,7 @@ use grammar::refusal::Refusal;
 use laying::lay::lay;
 use laying::tally::TOO_DEEP;
 use numbers::size::LARGEST;
+use walk::lent::Lent;
 
 // "Depth is at most 200. A case has at most 65,536 cells"
 pub const DEPTH: usize = 200;
@@ -62,7 +63,7 @@ pub fn fits<'a>(pool: &'a [u64], plan: &'a [u64], start: usize, number: u64, out
 {
     if asked(plan[4 * start + 3], number) {
         let most = room_for(out.len());
-        let lent = [pool, plan];
+        let lent = Lent { pool, plan };
         let rest = lay(&lent, start, number, 0, DEPTH, &mut out[..most]);
         return fit_of(most, rest);
     }

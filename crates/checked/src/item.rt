@@ -11,6 +11,7 @@ use numbers::joined::BIG;
 use numbers::size::LARGEST;
 use taking::own::{DEEP, UNFIT};
 use taking::take::take;
+use walk::lent::Lent;
 
 // The number and the place after its cells, or why there is none.
 #[derive(Drop)]
@@ -52,7 +53,7 @@ fn case_at<'a>(
     let few = room_for(left);
     let row = &cells[at..at + few];
     let mut used: usize = 0;
-    let lent = [pool, plan];
+    let lent = Lent { pool, plan };
     let word = take(&lent, start, &row, DEPTH, 0, &mut used);
     if BIG < word {
         return Item::Not(why(word, MOST_CELLS <= left));

@@ -12,7 +12,7 @@ use super::tally::{NO_ROOM, TOO_DEEP};
 use grammar::kinds;
 use grammar::kinds::{Tagged, Two, cons, dep, or, pool};
 use numbers::except;
-use walk::lent::{LENT, PLAN, POOL};
+use walk::lent::Lent;
 
 // One cell of the case.
 fn put(c: u64, out: &mut [u64]) -> usize
@@ -28,7 +28,7 @@ fn put(c: u64, out: &mut [u64]) -> usize
 
 // A tag cell, then a part.
 #[cycle(both_lay_tagged)]
-fn tagged(lent: &[&[u64]; LENT], s: Tagged, left: usize, out: &mut [u64]) -> usize
+fn tagged(lent: &Lent, s: Tagged, left: usize, out: &mut [u64]) -> usize
     requires visits { Visits (plan_of lent.now) (pool_of lent.now) s.part s.number }
     requires left_bound { (s.number + left ≤ 2 ^ 62 + 200) × (left ≤ 200) × (length out.old ≤ most) }
     ensures { Laid (length out.old)
@@ -45,7 +45,7 @@ fn tagged(lent: &[&[u64]; LENT], s: Tagged, left: usize, out: &mut [u64]) -> usi
 // Two parts at two numbers. "The second part's cells start right after the first part's": the middle of
 // the buffer that remains is lent on for them.
 #[cycle(both_lay_tagged)]
-fn both(lent: &[&[u64]; LENT], s: Two, left: usize, out: &mut [u64]) -> usize
+fn both(lent: &Lent, s: Two, left: usize, out: &mut [u64]) -> usize
     requires visits_two { VisitsTwo (plan_of lent.now) (pool_of lent.now) s }
     requires left_bound { (s.x + left ≤ 2 ^ 62 + 200) × (s.y + left ≤ 2 ^ 62 + 200) × (left ≤ 200) × (length out.old ≤ most) }
     ensures { Laid (length out.old)
@@ -64,7 +64,7 @@ fn both(lent: &[&[u64]; LENT], s: Two, left: usize, out: &mut [u64]) -> usize
 // `up` is what the shifts above add to the first cell. Only a below, a nats or a shift stands under a
 // shift, so every other kind has 0 there.
 #[cycle(both_lay_tagged)]
-pub fn lay(lent: &[&[u64]; LENT], i: usize, n: u64, up: u64, left: usize, out: &mut [u64]) -> usize
+pub fn lay(lent: &Lent, i: usize, n: u64, up: u64, left: usize, out: &mut [u64]) -> usize
     requires visits { Visits (plan_of lent.now) (pool_of lent.now) i n × Raised (plan_of lent.now) i up }
     requires left_bound { (n + left ≤ 2 ^ 62 + 200) × (up + left * 2 ^ 32 ≤ 200 * 2 ^ 32) × (left ≤ 200) × (length out.old ≤ most) }
     ensures { Laid (length out.old)
@@ -74,20 +74,20 @@ pub fn lay(lent: &[&[u64]; LENT], i: usize, n: u64, up: u64, left: usize, out: &
     if left == 0 {
         return TOO_DEEP;
     }
-    let plan = lent[PLAN];
+    let plan = lent.plan;
     let kind = plan[4 * i];
     let a = plan[4 * i + 1] as usize;
     let b = plan[4 * i + 2];
     match kind {
         kinds::BELOW => put(n + up, out),
         kinds::NATS => put(n + up, out),
-        kinds::POOL => put(pool::step(lent[POOL], a, n), out),
+        kinds::POOL => put(pool::step(lent.pool, a, n), out),
         kinds::SHIFT => lay(lent, a, n, up + b, left - 1, out),
         kinds::OR => tagged(lent, or::step(plan, a, b as usize, n), left - 1, out),
         kinds::CONS => both(lent, cons::step(plan, a, b as usize, n), left - 1, out),
         kinds::DEP => both(
             lent,
-            dep::step(lent[POOL], plan, a, b as usize, n),
+            dep::step(lent.pool, plan, a, b as usize, n),
             left - 1,
             out,
         ),

@@ -11,7 +11,7 @@ ghost use Rattle.laying.specs.Parts.{VisitsTwo, tag_walk, two_walks};
 use grammar::kinds;
 use grammar::kinds::{Tagged, Two, cons, dep, or};
 use numbers::except;
-use walk::lent::{LENT, PLAN, POOL};
+use walk::lent::Lent;
 
 // What a walk hands back: what is left of the room after the case; or, from 2^63 on, the first of 13 and
 // 14 in walk order. A word and not an enum: every visit hands one back, and copies of an enum stall.
@@ -32,7 +32,7 @@ fn one(room: usize) -> usize
 
 // A tag cell, then a part.
 #[cycle(both_tagged_tally)]
-fn tagged(lent: &[&[u64]; LENT], s: Tagged, left: usize, room: usize) -> usize
+fn tagged(lent: &Lent, s: Tagged, left: usize, room: usize) -> usize
     requires visits { Visits (plan_of lent.now) (pool_of lent.now) s.part s.number }
     requires left_bound { (s.number + left ≤ 2 ^ 62 + 200) × (left ≤ 200) × (room ≤ most) }
     ensures { left_of result ≡ tallied room (tag_walk (plan_of lent.now) (pool_of lent.now) left 0 s) }
@@ -45,7 +45,7 @@ fn tagged(lent: &[&[u64]; LENT], s: Tagged, left: usize, room: usize) -> usize
 
 // Two parts at two numbers.
 #[cycle(both_tagged_tally)]
-fn both(lent: &[&[u64]; LENT], s: Two, left: usize, room: usize) -> usize
+fn both(lent: &Lent, s: Two, left: usize, room: usize) -> usize
     requires visits_two { VisitsTwo (plan_of lent.now) (pool_of lent.now) s }
     requires left_bound { (s.x + left ≤ 2 ^ 62 + 200) × (s.y + left ≤ 2 ^ 62 + 200) × (left ≤ 200) × (room ≤ most) }
     ensures { left_of result ≡ tallied room
@@ -60,7 +60,7 @@ fn both(lent: &[&[u64]; LENT], s: Two, left: usize, room: usize) -> usize
 
 // "visits the node's parts at one depth more": the walk calls itself on parts, and the depth left falls.
 #[cycle(both_tagged_tally)]
-pub fn tally(lent: &[&[u64]; LENT], i: usize, n: u64, left: usize, room: usize) -> usize
+pub fn tally(lent: &Lent, i: usize, n: u64, left: usize, room: usize) -> usize
     requires visits { Visits (plan_of lent.now) (pool_of lent.now) i n }
     requires left_bound { (n + left ≤ 2 ^ 62 + 200) × (left ≤ 200) × (room ≤ most) }
     ensures { left_of result ≡ tallied room (walk (rule_in (plan_of lent.now) (pool_of lent.now)) left 0 i n) }
@@ -68,7 +68,7 @@ pub fn tally(lent: &[&[u64]; LENT], i: usize, n: u64, left: usize, room: usize) 
     if left == 0 {
         return TOO_DEEP;
     }
-    let plan = lent[PLAN];
+    let plan = lent.plan;
     let kind = plan[4 * i];
     let a = plan[4 * i + 1] as usize;
     let b = plan[4 * i + 2];
@@ -81,7 +81,7 @@ pub fn tally(lent: &[&[u64]; LENT], i: usize, n: u64, left: usize, room: usize) 
         kinds::CONS => both(lent, cons::step(plan, a, b as usize, n), left - 1, room),
         kinds::DEP => both(
             lent,
-            dep::step(lent[POOL], plan, a, b as usize, n),
+            dep::step(lent.pool, plan, a, b as usize, n),
             left - 1,
             room,
         ),
