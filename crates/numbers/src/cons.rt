@@ -4,9 +4,12 @@ ghost use Rattle.numbers.specs.Size.{size_of, endless};
 ghost use Rattle.numbers.specs.Joined.{capped};
 ghost use Rattle.numbers.specs.Cons.{split, join};
 
-use super::joined::product_and;
+use super::joined::{cap, product_and};
 use super::root::root_of;
 use super::size::ENDLESS;
+
+// The root of 2^62: from the next number on a square is past every joined number's limit.
+const ROOT_OF_LARGEST: u64 = 2147483648;
 
 // The numbers of the first part and of the second.
 #[derive(Clone, Copy, Debug, PartialEq, Eq)]
@@ -72,13 +75,16 @@ pub fn join(i: u64, j: u64, x: u64, y: u64) -> Option<u64>
     join_square(x, y)
 }
 
-// Each square is made by a product that is tested.
+// The square is decided before it is made: past the root of 2^62 it is past the limit.
 fn join_square(x: u64, y: u64) -> Option<u64>
     ensures { result ≡ capped (join endless endless x y) }
 {
+    if ROOT_OF_LARGEST < x.max(y) {
+        return None;
+    }
     if x < y {
-        product_and(y, y, x)
+        cap(y * y + x)
     } else {
-        product_and(x, x, x.checked_add(y)?)
+        cap(x * x + x + y)
     }
 }

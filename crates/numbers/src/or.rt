@@ -4,7 +4,7 @@ ghost use Rattle.numbers.specs.Size.{size_of};
 ghost use Rattle.numbers.specs.Joined.{capped};
 ghost use Rattle.numbers.specs.Or.{alternate, split, join, turn};
 
-use super::joined::{cap, product_and};
+use super::joined::cap;
 
 // A part and a number in it.
 #[derive(Clone, Copy, Debug, PartialEq, Eq)]
@@ -49,13 +49,11 @@ pub fn join(s: u64, t: u64, p: Part) -> Option<u64>
     }
 }
 
-// Number m of part b, 0 or 1, where the other part has size u.
+// Number m of part b, 0 or 1, where the other part has size u. At the limit it is past it: no join is less than its part.
 pub fn turned(b: u64, u: u64, m: u64) -> Option<u64>
+    requires { b ≤ 1 }
     ensures { result ≡ capped (turn b (size_of u) m) }
 {
-    if m < u {
-        product_and(m, 2, b)
-    } else {
-        cap(m.checked_add(u)?)
-    }
+    let m = cap(m)?;
+    cap(if m < u { 2 * m + b } else { m + u })
 }

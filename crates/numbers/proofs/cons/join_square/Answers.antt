@@ -1,14 +1,23 @@
--- `numbers::cons::join_square` is the join of two endless parts, capped.
+-- `numbers::cons::join_square` is the join of two endless parts, capped. Past the root of 2^62 it is at least its square.
 -- Assumes nothing.
 use mathlib.Core.Path.{◌≡◌, ap, ◌∙◌}
-use Prim.Native.Nat.{ℕ, ◌+◌, ◌*◌, ◌≤◌, ◌<◌}
+use Prim.Native.Nat.{ℕ, ◌+◌, ◌*◌, ◌^◌, ◌≤◌, ◌<◌, max}
+use native.Mathlib.Nat.{mul-le-mul}
 use native.Mathlib.Omega.{arith}
-use borrow.Author.Tests.{lt-ltb, le-ltb}
+use lib.Dec.{ltb}
+use borrow.Author.Tests.{ltb-true, ltb-false, lt-ltb, le-ltb}
 use Rattle.numbers.specs.Size.{endless}
-use Rattle.numbers.specs.Joined.{capped}
+use Rattle.numbers.specs.Joined.{capped, limit}
 use Rattle.numbers.specs.Cons.{join}
+use Rattle.numbers.proofs.Tests.{pick_by}
 use Rattle.numbers.proofs.joined.Capped.{is_big}
 use Rattle.numbers.proofs.cons.join_square.Goals as goal
+
+small : (x : ℕ) → x ≤ 2 ^ 31 → x * x ≤ 2 ^ 62
+small x h = mul-le-mul {n₁ = x} {m₁ = x} {n₂ = 2 ^ 31} {m₂ = 2 ^ 31} h h
+
+large : (x : ℕ) → 2 ^ 31 < x → limit ≤ x * x
+large x h = omega (arith, mul-le-mul h h)
 
 module _ (x y : ℕ) where
   less : x < y → y * y + x ≡ join endless endless x y
@@ -19,15 +28,41 @@ module _ (x y : ℕ) where
   unfolding join
   not_less h = rw (le-ltb x y h)
 
+  past : 2 ^ 31 < max x y → limit ≤ join endless endless x y
+  unfolding join
+  past h =
+      pick_by (λ n. limit ≤ n) (ltb x y)
+      (λ e. let l = ltb-true x y e in omega (arith, large y (omega arith)))
+      (λ e. let l = ltb-false x y e in omega (arith, large x (omega arith)))
+
+pub returns-then-max-gt-ROOT_OF_LARGEST : goal.returns-then-max-gt-ROOT_OF_LARGEST
+returns-then-max-gt-ROOT_OF_LARGEST c =
+    is_big _ (past _ _ (omega arith))
+
+pub overflow_mul-y : goal.overflow_mul-y
+overflow_mul-y c =
+    omega (arith, small c.args.y (omega arith))
+
+pub overflow_add-y : goal.overflow_add-y
+overflow_add-y c =
+    omega (arith, small c.args.y (omega arith))
+
+pub overflow_mul-x : goal.overflow_mul-x
+overflow_mul-x c =
+    omega (arith, small c.args.x (omega arith))
+
+pub overflow_add-x : goal.overflow_add-x
+overflow_add-x c =
+    omega (arith, small c.args.x (omega arith))
+
+pub overflow_add-x-else-x-y : goal.overflow_add-x-else-x-y
+overflow_add-x-else-x-y c =
+    omega (arith, small c.args.x (omega arith))
+
 pub returns-then-x-y : goal.returns-then-x-y
 returns-then-x-y c =
-    c.product_and.ensures ∙ ap capped (less _ _ c.if-x-y.true)
+    c.cap.ensures ∙ ap capped (less _ _ c.if-x-y.true)
 
-pub returns-in_err-checked_add : goal.returns-in_err-checked_add
-returns-in_err-checked_add c =
-    c.from_residual.ensures ∙ is_big _ (omega (arith, not_less _ _ c.if-x-y.false, c.in_err-checked_add.ensures))
-
-pub returns-in_ok-checked_add : goal.returns-in_ok-checked_add
-returns-in_ok-checked_add c =
-    let h = c.in_ok-checked_add.ensures in
-    c.product_and-else-x-y.ensures ∙ ap capped (omega (arith, not_less _ _ c.if-x-y.false, h.1))
+pub returns-else-x-y : goal.returns-else-x-y
+returns-else-x-y c =
+    c.cap-else-x-y.ensures ∙ ap capped (not_less _ _ c.if-x-y.false)
