@@ -8,6 +8,7 @@
 use mathlib.Core.Path.{◌≡◌, refl, sym, subst, ap}
 use mathlib.Core.Bool.{Bool, true, false, ◌||◌}
 use mathlib.Core.List.{List, [], ◌∷◌, map}
+use Rattle.std.specs.Prelude.{Result, Err}
 use Prim.Native.Nat.{ℕ, zero, suc, ◌≤◌, ◌<◌}
 use native.Mathlib.Nat.{not-suc-le-zero, le_of_suc-le-suc}
 use lib.Dec.{eqb}
@@ -21,17 +22,15 @@ use Rattle.grammar.specs.Nodes.{node_at, rule_at, row_at}
 use Rattle.grammar.specs.Plan.{coded, weighed}
 use Rattle.grammar.specs.declared.refusal.Refusal.{Refusal}
 use Rattle.grammar.specs.declared.refusal.Refusal.TheVariants.{Kind as NoKind, SpareWord}
-use Rattle.grammar.specs.declared.kinds.Weighed.{Weighed}
-use Rattle.grammar.specs.declared.kinds.Weighed.TheVariants.{Fault}
 use Rattle.grammar.proofs.Known.{Others, past_unknown, others_unknown}
 
 -- ---- what the kind answers
 module _ (w : ℕ) (v : Node) (z : ℕ → Size) where
-  pub by_word : (i : ℕ) {r : Weighed} → w ≡ i → r ≡ weighed (kind_in i) v z → r ≡ weighed (kind_in w) v z
+  pub by_word : (i : ℕ) {r : Result ℕ Refusal} → w ≡ i → r ≡ weighed (kind_in i) v z → r ≡ weighed (kind_in w) v z
   by_word i {r} e h = subst (λ (k : ℕ). r ≡ weighed (kind_in k) v z) (sym e) h
 
-  pub not_known : Others (length kinds) w → Fault NoKind ≡ weighed (kind_in w) v z
-  not_known h = subst (λ (k : Kind). Fault NoKind ≡ weighed k v z) (sym (others_unknown w h)) (unfold weighed row coded in refl)
+  pub not_known : Others (length kinds) w → Err NoKind ≡ weighed (kind_in w) v z
+  not_known h = subst (λ (k : Kind). Err NoKind ≡ weighed k v z) (sym (others_unknown w h)) (unfold weighed row coded in refl)
 
 -- ---- spare words
 used_in : (ks : List Kind) (w : ℕ) → w < length ks
@@ -67,7 +66,7 @@ passes : (q : Bool) (r : Refusal) (cs : List Check) (s : Size) → q ≡ true �
 unfolding row
 passes q r cs s e = rw e
 
-fails : (q : Bool) (r : Refusal) (cs : List Check) (s : Size) → q ≡ false → Fault r ≡ coded (row (asks q r ∷ cs) s)
+fails : (q : Bool) (r : Refusal) (cs : List Check) (s : Size) → q ≡ false → Err r ≡ coded (row (asks q r ∷ cs) s)
 unfolding row coded
 fails q r cs s e = rw e
 
@@ -76,6 +75,6 @@ module _ (t p : List ℕ) (z : ℕ → Size) (n : ℕ) where
   unfolding weighed row_at rule_at
   row_goes_on e = ap coded (passes _ SpareWord _ _ e)
 
-  pub row_spare : spare (kind_in (kind_of t n)) (a_of t n) (b_of t n) ≡ false → Fault SpareWord ≡ coded (row_at t p z n)
+  pub row_spare : spare (kind_in (kind_of t n)) (a_of t n) (b_of t n) ≡ false → Err SpareWord ≡ coded (row_at t p z n)
   unfolding row_at
   row_spare e = fails _ SpareWord _ _ e

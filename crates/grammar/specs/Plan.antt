@@ -9,7 +9,7 @@
 --   Ready      the table is checked, with the sizes of the plan
 --   AllWeighed the first fault and its node, or the plan of the whole table
 -- Assumes nothing.
-use Rattle.std.specs.Prelude.{◌≡◌, List, ℕ, ◌+◌, ◌*◌, ◌≤◌, ◌<◌, length, get_or, set, Option, Some, None}
+use Rattle.std.specs.Prelude.{◌≡◌, Option, Some, None, Result, Ok, Err, List, ℕ, ◌+◌, ◌*◌, ◌≤◌, ◌<◌, length, get_or, set}
 use Rattle.numbers.specs.Size.{Size, code_of, size_of}
 use Rattle.grammar.specs.Table.{kind_of, a_of, b_of, nodes}
 use Rattle.grammar.specs.Checks.{Row, fault, sized, row}
@@ -22,11 +22,13 @@ use Rattle.grammar.specs.Sizes.{size_at, scan, passed, faulty, sizes}
 use Rattle.grammar.specs.declared.refusal.Refusal.TheVariants.{TooLarge}
 use Rattle.grammar.specs.declared.refusal.Verdict.{Verdict}
 use Rattle.grammar.specs.declared.refusal.Verdict.TheVariants.{Accepted, Refused}
-use Rattle.grammar.specs.declared.kinds.Weighed.{Weighed}
-use Rattle.grammar.specs.declared.kinds.Weighed.TheVariants.{Fault, Of}
+use Rattle.grammar.specs.declared.refusal.Refusal.{Refusal}
+
+abbrev pub size_word : List ℕ → ℕ → ℕ
+size_word plan n = get_or plan (4 * n + 3) 0
 
 abbrev pub size_in : List ℕ → ℕ → Size
-size_in plan n = size_of (get_or plan (4 * n + 3) 0)
+size_in plan n = size_of (size_word plan n)
 
 abbrev pub kind_word : List ℕ → ℕ → ℕ
 kind_word plan i = get_or plan (4 * i) 0
@@ -47,17 +49,17 @@ rule_in plan p i = (kind_in (kind_word plan i)).rule (a_word plan i) (b_word pla
 abbrev pub rowed : List ℕ → ℕ → ℕ → ℕ → ℕ → ℕ → List ℕ
 rowed plan n kind a b w = set (set (set (set plan (4 * n) kind) (4 * n + 1) a) (4 * n + 2) b) (4 * n + 3) w
 
-unfoldable pub coded : Row → Weighed
-coded (fault r) = Fault r
-coded (sized s) = Of (code_of s)
+unfoldable pub coded : Row → Result ℕ Refusal
+coded (fault r) = Err r
+coded (sized s) = Ok (code_of s)
 
 -- a measured size in the same words
-unfoldable pub weighed_of : Option ℕ → Weighed
-weighed_of (Some s) = Of s
-weighed_of None = Fault TooLarge
+unfoldable pub weighed_of : Option ℕ → Result ℕ Refusal
+weighed_of (Some s) = Ok s
+weighed_of None = Err TooLarge
 
 -- z has the sizes, of which a row looks at those before it
-unfoldable pub weighed : Kind → Node → (ℕ → Size) → Weighed
+unfoldable pub weighed : Kind → Node → (ℕ → Size) → Result ℕ Refusal
 weighed k v z = let y = before z v.own in coded (row (k.checks v y) (k.rule v.a v.b v.pool y).size)
 
 pub record Planned (t : List ℕ) (zs : List Size) (n : ℕ) (plan : List ℕ) : Type 0 where

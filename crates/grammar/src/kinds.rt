@@ -1,6 +1,6 @@
 // 01's kinds: a file a kind, with the checks of its row in their order and then its size, and what its visits do.
 // Which kind a word stands for is asked here, a line a kind: the check of its row, and the nodes that it names.
-ghost use Rattle.std.specs.Prelude.{◌≡◌, List, ℕ, ◌*◌, ◌<◌, ◌≤◌, length};
+ghost use Rattle.std.specs.Prelude.{◌≡◌, true, false, List, ℕ, ◌*◌, ◌<◌, ◌≤◌, length, MatchResult};
 ghost use Rattle.numbers.specs.Size.{Size, size_of, code_of};
 ghost use Rattle.grammar.specs.Table.{nodes};
 ghost use Rattle.grammar.specs.kinds.{used_words, kind_in};
@@ -62,15 +62,8 @@ const USED: [[bool; 2]; KINDS] = [
     [true, false], // again: fix
 ];
 
-// A refusal, or the word of the node's size.
-#[derive(Drop)]
-pub enum Weighed {
-    Fault(Refusal),
-    Of(u64),
-}
-
 // What a visit shows: a tag cell, then a part at a number.
-#[derive(Drop)]
+#[derive(Clone, Copy, Debug, PartialEq, Eq)]
 pub struct Tagged {
     pub tag: u64,
     pub part: usize,
@@ -78,7 +71,7 @@ pub struct Tagged {
 }
 
 // What a visit shows: two parts, each at a number.
-#[derive(Drop)]
+#[derive(Clone, Copy, Debug, PartialEq, Eq)]
 pub struct Two {
     pub first: usize,
     pub x: u64,
@@ -86,32 +79,28 @@ pub struct Two {
     pub y: u64,
 }
 
-// The number that a cell stands for by itself, or none.
-#[derive(Drop)]
-pub enum Place {
-    At(u64),
-    Nowhere,
+// One check of a row: what it asks, and the refusal where that does not hold.
+pub fn asks(holds: bool, refusal: Refusal) -> Result<(), Refusal>
+    ensures { MatchResult result (λ _. holds ≡ true) (λ r. (holds ≡ false) × (r ≡ refusal)) }
+{
+    if holds { Ok(()) } else { Err(refusal) }
 }
 
 // A size, or (8) "when a finite size passes 2^62".
-fn of_measured(m: Option<u64>) -> Weighed
+fn of_measured(m: Option<u64>) -> Result<u64, Refusal>
     ensures { result ≡ weighed_of m }
 {
     match m {
-        Some(s) => Weighed::Of(s),
-        None => Weighed::Fault(Refusal::TooLarge),
+        Some(s) => Ok(s),
+        None => Err(Refusal::TooLarge),
     }
 }
 
 // A size as it stands in the plan.
-fn size_of(s: u64) -> Weighed
-    ensures { result ≡ Weighed.Of (code_of (size_of s)) }
+fn size_of(s: u64) -> u64
+    ensures { result ≡ code_of (size_of s) }
 {
-    if s < ENDLESS {
-        Weighed::Of(s)
-    } else {
-        Weighed::Of(ENDLESS)
-    }
+    s.min(ENDLESS)
 }
 
 // The constant table, by value: made once for a whole check, and lent to each node.
@@ -130,7 +119,7 @@ pub fn row(
     kind: u64,
     a: u64,
     b: u64,
-) -> Weighed
+) -> Result<u64, Refusal>
     requires { (length table.now ≡ 3 * nodes table.now) × (n < nodes table.now) × (4 * n ≤ length plan.now) }
     ensures { result ≡ weighed (kind_in kind) (node_with table.now pool.now n a b) (size_in plan.now) }
 {
@@ -145,7 +134,7 @@ pub fn row(
         EXCEPT => except::check(plan, n, a as usize, b),
         FIX => fix::check(plan, n, a as usize),
         AGAIN => again::check(table, n, a as usize),
-        _ => Weighed::Fault(Refusal::Kind),
+        _ => Err(Refusal::Kind),
     }
 }
 

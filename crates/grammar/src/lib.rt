@@ -3,6 +3,6 @@
 #![tactic(auto)]
 
 pub mod kinds;
-pub mod loops;
 pub mod named;
+pub mod pool_words;
 pub mod refusal;

@@ -16,19 +16,18 @@ use Rattle.grammar.specs.Sizes.{passed, size_at, onward, scan, sizes}
 use Rattle.grammar.specs.Plan.{size_in, rowed, coded, Planned, AllWeighed}
 use Rattle.grammar.specs.declared.refusal.Refusal.{Refusal}
 use Rattle.grammar.specs.declared.refusal.Verdict.TheVariants.{Accepted, Refused}
-use Rattle.grammar.specs.declared.kinds.Weighed.{Weighed}
-use Rattle.grammar.specs.declared.kinds.Weighed.TheVariants.{Fault, Of}
+use Rattle.std.specs.Prelude.{Result, Ok, Err}
 use Rattle.planning.proofs.Plans.{plan_none, plan_more, plan_sizes}
 use Rattle.grammar.proofs.Checked.{row_fit}
 use Rattle.grammar.proofs.Faults.{stays}
 
 -- ---- a row's outcome, from the code's word for it
-coded_of : (r : Row) {w : ℕ} → coded r ≡ Of w → (s : Size) × (r ≡ sized s) × (w ≡ code_of s)
+coded_of : (r : Row) {w : ℕ} → coded r ≡ Ok w → (s : Size) × (r ≡ sized s) × (w ≡ code_of s)
 unfolding coded
 coded_of (fault f) e = let z : ◌≡◌ {A = ℕ} 0 1 = cc in absurd (omega arith)
 coded_of (sized s) e = (s, refl, cc)
 
-coded_fault : (r : Row) {f : Refusal} → coded r ≡ Fault f → r ≡ fault f
+coded_fault : (r : Row) {f : Refusal} → coded r ≡ Err f → r ≡ fault f
 unfolding coded
 coded_fault (fault f) e = cc
 coded_fault (sized s) e = let z : ◌≡◌ {A = ℕ} 0 1 = cc in absurd (omega arith)
@@ -45,7 +44,7 @@ pub weighing_none : {t p plan : List ℕ} → plan ≡ replicate (length plan) 0
 unfolding scan
 weighing_none {t} {p} {plan} e l = record { le = zero-le; same = refl; zs = []; is = refl; plans = plan_none t plan e l }
 
-module _ {t p old plan : List ℕ} {n : ℕ} (c : Weighing t p old n plan) (l : n < nodes t) {w : Weighed} (e : w ≡ coded (row_at t p (size_in plan) n)) where
+module _ {t p old plan : List ℕ} {n : ℕ} (c : Weighing t p old n plan) (l : n < nodes t) {w : Result ℕ Refusal} (e : w ≡ coded (row_at t p (size_in plan) n)) where
   here : w ≡ coded (row_at t p (size_at c.zs) n)
   here = e ∙ ap (λ (z : ℕ → Size). coded (row_at t p z n)) (plan_sizes c.plans)
 
@@ -62,10 +61,10 @@ module _ {t p old plan : List ℕ} {n : ℕ} (c : Weighing t p old n plan) (l : 
         plans = rw g (plan_more c.plans l s m q);
       }
 
-  pub weighing_more : {s : ℕ} {next : List ℕ} → w ≡ Of s → next ≡ rowed plan n (kind_of t n) (a_of t n) (b_of t n) s → Weighing t p old (n + 1) next
+  pub weighing_more : {s : ℕ} {next : List ℕ} → w ≡ Ok s → next ≡ rowed plan n (kind_of t n) (a_of t n) (b_of t n) s → Weighing t p old (n + 1) next
   weighing_more f g = let (s, r, q) = coded_of (row_at t p (size_at c.zs) n) (sym here ∙ f) in turn s r q g
 
-  pub weighing_fault : {r : Refusal} {last : List ℕ} → w ≡ Fault r → AllWeighed t p last (Refused r n)
+  pub weighing_fault : {r : Refusal} {last : List ℕ} → w ≡ Err r → AllWeighed t p last (Refused r n)
   unfolding scan onward
   weighing_fault f =
       let r = coded_fault (row_at t p (size_at c.zs) n) (sym here ∙ f) in

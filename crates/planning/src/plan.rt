@@ -6,7 +6,7 @@ ghost use Rattle.grammar.specs.kinds.{used_words, kind_in};
 ghost use Rattle.grammar.specs.Nodes.{row_at};
 ghost use Rattle.grammar.specs.Plan.{size_in, coded, rowed, AllWeighed};
 
-use grammar::kinds::{KINDS, Weighed, row, used_words};
+use grammar::kinds::{KINDS, asks, row, used_words};
 use grammar::refusal::{Refusal, Verdict};
 
 // "a word not used is zero". Of a kind that is not known nothing is spare, so that its row refuses it (2).
@@ -21,7 +21,13 @@ fn spare_words(kind: usize, a: u64, b: u64, used: &[[bool; 2]; KINDS]) -> bool
 }
 
 // The whole row of node n.
-fn weigh(table: &[u64], pool: &[u64], plan: &[u64], n: usize, used: &[[bool; 2]; KINDS]) -> Weighed
+fn weigh(
+    table: &[u64],
+    pool: &[u64],
+    plan: &[u64],
+    n: usize,
+    used: &[[bool; 2]; KINDS],
+) -> Result<u64, Refusal>
     requires used_value { used.now ≡ used_words }
     requires table_len { (length table.now ≡ 3 * nodes table.now) × (n < nodes table.now) × (4 * n ≤ length plan.now) }
     ensures { result ≡ coded (row_at table.now pool.now (size_in plan.now) n) }
@@ -29,10 +35,8 @@ fn weigh(table: &[u64], pool: &[u64], plan: &[u64], n: usize, used: &[[bool; 2];
     let kind = table[3 * n];
     let a = table[3 * n + 1];
     let b = table[3 * n + 2];
-    if spare_words(kind as usize, a, b, used) {
-        return row(table, pool, plan, n, kind, a, b);
-    }
-    Weighed::Fault(Refusal::SpareWord)
+    asks(spare_words(kind as usize, a, b, used), Refusal::SpareWord)?;
+    row(table, pool, plan, n, kind, a, b)
 }
 
 // A node's four words.
@@ -57,10 +61,10 @@ pub fn weigh_all(table: &[u64], pool: &[u64], plan: &mut [u64]) -> Verdict
     for n in 0..count {
         let w = weigh(table, pool, plan, n, &used);
         match w {
-            Weighed::Fault(r) => {
+            Err(r) => {
                 return Verdict::Refused(r, n as u64);
             }
-            Weighed::Of(s) => {
+            Ok(s) => {
                 put_row(plan, n, table[3 * n], table[3 * n + 1], table[3 * n + 2], s);
             }
         }

@@ -8,20 +8,17 @@ ghost use Rattle.grammar.specs.Plan.{size_in, weighed};
 ghost use Rattle.grammar.specs.Shown.{ShowsTwo};
 
 use super::super::refusal::Refusal;
-use super::{Two, Weighed, of_measured};
+use super::{Two, asks, of_measured};
 use numbers::joined::BIG;
 use numbers::size;
 
-pub fn check(plan: &[u64], n: usize, a: usize, b: usize) -> Weighed
+#[tactic(auto, unfolding(crate::specs::Plan::weighed, crate::specs::Plan::coded, crate::specs::Checks::row))]
+pub fn check(plan: &[u64], n: usize, a: usize, b: usize) -> Result<u64, Refusal>
     requires { 4 * n ≤ length plan.now }
     ensures { (t p : List ℕ) → result ≡ weighed cons (node_with t p n a b) (size_in plan.now) }
 {
-    if n <= a {
-        return Weighed::Fault(Refusal::Reference);
-    }
-    if n <= b {
-        return Weighed::Fault(Refusal::Reference);
-    }
+    asks(a < n, Refusal::Reference)?;
+    asks(b < n, Refusal::Reference)?;
     let m = size::product(plan[4 * a + 3], plan[4 * b + 3]);
     of_measured(m)
 }

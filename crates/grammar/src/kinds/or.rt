@@ -12,21 +12,18 @@ ghost use Rattle.grammar.specs.Shown.{ShowsTagged};
 
 use super::super::named::{Named, one, two};
 use super::super::refusal::Refusal;
-use super::{Tagged, Weighed, of_measured};
+use super::{Tagged, asks, of_measured};
 use numbers::joined::BIG;
 use numbers::or::Part;
 use numbers::size;
 
-pub fn check(plan: &[u64], n: usize, a: usize, b: usize) -> Weighed
+#[tactic(auto, unfolding(crate::specs::Plan::weighed, crate::specs::Plan::coded, crate::specs::Checks::row))]
+pub fn check(plan: &[u64], n: usize, a: usize, b: usize) -> Result<u64, Refusal>
     requires { 4 * n ≤ length plan.now }
     ensures { (t p : List ℕ) → result ≡ weighed or (node_with t p n a b) (size_in plan.now) }
 {
-    if n <= a {
-        return Weighed::Fault(Refusal::Reference);
-    }
-    if n <= b {
-        return Weighed::Fault(Refusal::Reference);
-    }
+    asks(a < n, Refusal::Reference)?;
+    asks(b < n, Refusal::Reference)?;
     let m = size::sum(plan[4 * a + 3], plan[4 * b + 3]);
     of_measured(m)
 }
@@ -61,7 +58,7 @@ pub fn step(plan: &[u64], a: usize, b: usize, n: u64) -> Tagged
 }
 
 // The part that a tag leads to, and the other one.
-#[derive(Drop)]
+#[derive(Clone, Copy, Debug, PartialEq, Eq)]
 pub struct Sides {
     pub part: usize,
     pub other: usize,

@@ -6,31 +6,21 @@ ghost use Rattle.grammar.specs.kinds.Shift.{shift};
 ghost use Rattle.grammar.specs.Plan.{size_in, weighed};
 
 use super::super::refusal::Refusal;
-use super::{BELOW, NATS, SHIFT, Weighed, size_of};
+use super::{BELOW, NATS, SHIFT, asks, size_of};
 
 // A shift adds at most 2^32.
 const LARGEST_SHIFT: u64 = 4294967296;
 
-pub fn check(table: &[u64], plan: &[u64], n: usize, a: usize, k: u64) -> Weighed
+#[tactic(auto, unfolding(crate::specs::Plan::weighed, crate::specs::Plan::coded, crate::specs::Checks::row, crate::specs::kinds::Shift::shift_rule))]
+pub fn check(table: &[u64], plan: &[u64], n: usize, a: usize, k: u64) -> Result<u64, Refusal>
     requires { (length table.now ≡ 3 * nodes table.now) × (n < nodes table.now) × (4 * n ≤ length plan.now) }
     ensures { (p : List ℕ) → result ≡ weighed shift (node_with table.now p n a k) (size_in plan.now) }
 {
-    if n <= a {
-        return Weighed::Fault(Refusal::Reference);
-    }
-    if LARGEST_SHIFT < k {
-        return Weighed::Fault(Refusal::Range);
-    }
-    let kind = table[3 * a];
-    let s = plan[4 * a + 3];
-    if kind == BELOW {
-        return size_of(s);
-    }
-    if kind == NATS {
-        return size_of(s);
-    }
-    if kind == SHIFT {
-        return size_of(s);
-    }
-    Weighed::Fault(Refusal::UnsuitedPart)
+    asks(a < n, Refusal::Reference)?;
+    asks(k <= LARGEST_SHIFT, Refusal::Range)?;
+    asks(
+        matches!(table[3 * a], BELOW | NATS | SHIFT),
+        Refusal::UnsuitedPart,
+    )?;
+    Ok(size_of(plan[4 * a + 3]))
 }

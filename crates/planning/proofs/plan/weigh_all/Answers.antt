@@ -14,8 +14,8 @@ weigh-w-requires c =
       table_len = omega arith;
     }
 
-pub returns-in-Fault : goal.returns-in-Fault
-returns-in-Fault c =
+pub returns-in-Err : goal.returns-in-Err
+returns-in-Err c =
     search weighing_fault
 
 pub loop-n-preserved : goal.loop-n-preserved
