@@ -1,4 +1,5 @@
-// The whole t-th root, for the three to eight parts that a tuple may have.
+// The whole t-th root, for the three to eight parts that a tuple may have. The search from a near number on is that of the
+// square root too, at t = 2.
 ghost use Rattle.std.specs.Prelude.{◌≡◌, ◌+◌, ◌^◌, ◌≤◌, ◌<◌};
 ghost use Rattle.numbers.specs.Joined.{limit};
 ghost use Rattle.numbers.specs.Power.{root_of};
@@ -6,14 +7,10 @@ ghost use Rattle.numbers.specs.Power.{root_of};
 use super::divided::divided;
 
 fn power(base: u64, t: usize) -> u64
-    requires { base ^ t < 2 ^ 64 }
+    requires { (t ≤ 8) × (base ^ t < 2 ^ 64) }
     ensures { result ≡ base ^ t }
 {
-    let mut p: u64 = 1;
-    for i in 0..t {
-        p = p * base;
-    }
-    p
+    base.pow(t as u32)
 }
 
 // The largest root of a number that a walk has: the power of the next one is past every number's limit.
@@ -108,10 +105,11 @@ fn guess(t: usize, n: u64) -> u64
     nearer(t, n, at_most(t, near))
 }
 
-// The first number from `from` down whose power is within n.
-fn down(t: usize, n: u64, from: u64) -> u64
-    requires { (3 ≤ t) × (t ≤ 8) × (from ≤ root_of t limit) × (n < (from + 1) ^ t) }
-    ensures { result ≡ root_of t n }
+// The first number from `from` down whose power is within n: the root, where that is not above `from`.
+pub(super) fn down(t: usize, n: u64, from: u64) -> u64
+    requires { (0 < t) × (t ≤ 8) × (from ^ t < 2 ^ 64) }
+    ensures within { result ^ t ≤ n }
+    ensures root { n < (from + 1) ^ t → result ≡ root_of t n }
 {
     let mut r = from;
     while n < power(r, t) {
@@ -121,8 +119,8 @@ fn down(t: usize, n: u64, from: u64) -> u64
 }
 
 // The last number from `from` up whose power is within n.
-fn up(t: usize, n: u64, from: u64) -> u64
-    requires { (3 ≤ t) × (t ≤ 8) × (n ≤ limit) × (from ^ t ≤ n) }
+pub(super) fn up(t: usize, n: u64, from: u64) -> u64
+    requires { (0 < t) × (t ≤ 8) × (from ^ t ≤ n) × ((root_of t n + 1) ^ t < 2 ^ 64) }
     ensures { result ≡ root_of t n }
 {
     let mut r = from;

@@ -2,6 +2,8 @@
 ghost use Rattle.std.specs.Prelude.{◌≡◌, ◌*◌, ◌<◌, ◌≤◌, ◌^◌};
 ghost use Rattle.numbers.specs.Root.{root, Above};
 
+use super::power::{down, up};
+
 // The largest root of a word, 2^32 - 1.
 const MOST: u64 = 4294967295;
 
@@ -167,30 +169,6 @@ const SMALL: u64 = 65536;
 // Below this one step of Newton's leaves at most a few numbers to the root, and from here on two.
 const MIDDLE: u64 = 4294967296;
 
-// The first number from `near` down whose square is within n: the root, where `near` is that or more.
-fn down(n: u64, near: u64) -> u64
-    requires { near < 2 ^ 32 }
-    ensures { (result * result ≤ n) × (Above n near → result ≡ root n) }
-{
-    let mut r = near;
-    while n < r * r {
-        r -= 1;
-    }
-    r
-}
-
-// The last number from r up whose square is within n.
-fn up(n: u64, from: u64) -> u64
-    requires { (from * from ≤ n) × (n < 65536) }
-    ensures { result ≡ root n }
-{
-    let mut r = from;
-    while (r + 1) * (r + 1) <= n {
-        r += 1;
-    }
-    r
-}
-
 // From any guess a step gives the root or more, and a near one from a near guess; then it goes down to the root.
 pub fn root_of(n: u64) -> u64
     ensures { result ≡ root n }
@@ -200,11 +178,11 @@ pub fn root_of(n: u64) -> u64
     }
     let near = guess(n);
     if n < SMALL {
-        return up(n, down(n, near));
+        return up(2, n, down(2, n, near));
     }
     let nearer = step_above(n, near);
     if n < MIDDLE {
-        return down(n, nearer);
+        return down(2, n, nearer);
     }
-    down(n, step_above(n, nearer))
+    down(2, n, step_above(n, nearer))
 }

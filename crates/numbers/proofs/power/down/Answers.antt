@@ -1,14 +1,15 @@
 use native.Mathlib.Omega.{arith}
-use Rattle.numbers.proofs.power.Largest.{word, some, lowered, ends_here}
+use Rattle.numbers.proofs.power.Powers.{pow_le}
+use Rattle.numbers.proofs.power.Near.{some, lowered, ends_here}
 use Rattle.numbers.proofs.power.down.Goals as goal
 
 pub loop-r-init : goal.loop-r-init
 loop-r-init c =
-    (c.requires.2, c.requires.3)
+    (omega arith, λ h. h)
 
 pub power-requires : goal.power-requires
 power-requires c =
-    omega (arith, word _ c.requires.0 c.requires.1 _ c.loop-r.invariant.0)
+    (c.requires.1, omega (arith, c.requires.2, pow_le c.args.t c.loop-r.invariant.0))
 
 pub overflow_sub-r : goal.overflow_sub-r
 overflow_sub-r c =
@@ -20,8 +21,10 @@ loop-r-smaller c =
 
 pub loop-r-preserved : goal.loop-r-preserved
 loop-r-preserved c =
-    (omega arith, lowered _ c.requires.0 c.power.ensures c.loop-r-test.true)
+    (omega (arith, c.loop-r.invariant.0), λ h. lowered _ c.requires.0 c.power.ensures c.loop-r-test.true)
 
 pub returns : goal.returns
-returns c =
-    ends_here _ c.requires.0 c.power.ensures c.loop-r-test.false c.loop-r.invariant.1
+returns c = record {
+  within = omega (arith, c.power.ensures);
+  root = λ h. ends_here _ c.requires.0 c.power.ensures c.loop-r-test.false (c.loop-r.invariant.1 h);
+}
