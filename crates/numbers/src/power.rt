@@ -55,9 +55,9 @@ fn logarithm(n: u64) -> u64
     requires { 0 < n }
     ensures { result < 2 ^ 23 }
 {
-    let zeros = u64::leading_zeros(n);
+    let zeros = n.leading_zeros();
     let x = ((n << zeros) >> 47) % ONE;
-    let whole = 63 - zeros as u64;
+    let whole = 63 - u64::from(zeros);
     whole * ONE + x + product(LOG_CURVE - product(x, LOG_SLOPE), product(ONE - x, x))
 }
 
@@ -69,19 +69,10 @@ fn power_of_two(log: u64) -> u64
     (e << (log >> 16)) >> 16
 }
 
-// Any number is as good as another here, up to the largest root.
-fn at_most(t: usize, near: u64) -> u64
-    requires { (3 ≤ t) × (t ≤ 8) }
-    ensures { result ≤ root_of t limit }
-{
-    let most = most(t);
-    if most < near { most } else { near }
-}
-
 // From here on a guess may be more than two off, and a step of Newton's pays.
 const LARGE: u64 = 4096;
 
-// Newton's step from a large guess.
+// Newton's step from a large guess. Any number is as good as another here, up to the largest root.
 fn nearer(t: usize, n: u64, near: u64) -> u64
     requires { (3 ≤ t) × (t ≤ 8) × (n ≤ limit) × (near ≤ root_of t limit) }
     ensures { result ≤ root_of t limit }
@@ -90,10 +81,7 @@ fn nearer(t: usize, n: u64, near: u64) -> u64
         return near;
     }
     let others = t - 1;
-    at_most(
-        t,
-        divided(others as u64 * near + n / power(near, others), t),
-    )
+    divided(others as u64 * near + n / power(near, others), t).min(most(t))
 }
 
 // About the root of n, and at most the largest root.
@@ -102,10 +90,11 @@ fn guess(t: usize, n: u64) -> u64
     ensures { result ≤ root_of t limit }
 {
     let near = power_of_two(divided(logarithm(n), t));
-    nearer(t, n, at_most(t, near))
+    nearer(t, n, near.min(most(t)))
 }
 
-// The first number from `from` down whose power is within n: the root, where that is not above `from`.
+// The first number from `from` down whose power is within n: the root, where that is not above `from`. A loop, as `up` too:
+// there is always such a number, and `find` over the numbers would answer an Option of it.
 pub(super) fn down(t: usize, n: u64, from: u64) -> u64
     requires { (0 < t) × (t ≤ 8) × (from ^ t < 2 ^ 64) }
     ensures within { result ^ t ≤ n }

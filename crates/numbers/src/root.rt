@@ -148,9 +148,9 @@ fn guess(n: u64) -> u64
     requires { 0 < n }
     ensures { (1 < result) × (result < 2 ^ 32) }
 {
-    let half = u64::leading_zeros(n) / 2;
+    let half = n.leading_zeros() / 2;
     let top = (n << (2 * half)) >> 57;
-    let near = (top_root(top) as u64) << 16;
+    let near = u64::from(top_root(top)) << 16;
     (near >> half) + 2
 }
 
@@ -159,8 +159,7 @@ fn step_above(n: u64, near: u64) -> u64
     requires { (1 < near) × (near ≤ 2 ^ 32) }
     ensures { Above n result }
 {
-    let r = (near + n / near) / 2;
-    if MOST < r { MOST } else { r }
+    ((near + n / near) / 2).min(MOST)
 }
 
 // Below this a guess is so near that no division is needed: deep in a large case nearly all numbers are small.

@@ -7,7 +7,6 @@ use Rattle.numbers.specs.Root.{root_by, root}
 use Rattle.numbers.specs.Power.{root_of}
 use Rattle.numbers.proofs.Words.{own_square}
 use Rattle.numbers.proofs.root.WholeRoot.{root_is}
-use Rattle.numbers.proofs.root.Newton.{far_above}
 use Rattle.numbers.proofs.root.Square.{square_root, square_fits, searched}
 use Rattle.numbers.proofs.root.root_of.Goals as goal
 
@@ -25,10 +24,6 @@ pub returns-then-n-eq0 : goal.returns-then-n-eq0
 returns-then-n-eq0 c =
     none c
 
-pub down-requires : goal.down-requires
-down-requires c =
-    (omega arith, omega arith, square_fits _ c.guess-near.ensures.1)
-
 pub up-requires : goal.up-requires
 up-requires c =
     (omega arith, omega arith, c.down.ensures.within, small _ c.if-n-lt-SMALL.true)
@@ -37,25 +32,9 @@ pub returns-then-n-lt-SMALL : goal.returns-then-n-lt-SMALL
 returns-then-n-lt-SMALL c =
     c.up.ensures ∙ square_root _
 
-pub step_above-nearer-requires : goal.step_above-nearer-requires
-step_above-nearer-requires c =
-    (c.guess-near.ensures.0, omega (arith, c.guess-near.ensures.1))
-
-pub down-requires-then-n-lt-MIDDLE : goal.down-requires-then-n-lt-MIDDLE
-down-requires-then-n-lt-MIDDLE c =
-    (omega arith, omega arith, square_fits _ c.step_above-nearer.ensures.word)
-
 pub returns-then-n-lt-MIDDLE : goal.returns-then-n-lt-MIDDLE
 returns-then-n-lt-MIDDLE c =
     searched c.step_above-nearer.ensures c.down-then-n-lt-MIDDLE.ensures.root
-
-pub step_above-requires : goal.step_above-requires
-step_above-requires c =
-    (far_above _ _ c.step_above-nearer.ensures (omega arith), omega (arith, c.step_above-nearer.ensures.word))
-
-pub down-requires-2 : goal.down-requires-2
-down-requires-2 c =
-    (omega arith, omega arith, square_fits _ c.step_above.ensures.word)
 
 pub returns : goal.returns
 returns c =
