@@ -8,6 +8,7 @@ use super::cons::Pair;
 use super::joined::{cap, product_and};
 
 // "Seconds endless: first n mod m, second n div m."
+#[tactic(auto, unfolding(crate::specs::Dep::split))]
 pub fn split_endless(m: u64, n: u64) -> Pair
     requires { 0 < m }
     ensures { result ≡ split (endlesses m) n }
@@ -18,6 +19,7 @@ pub fn split_endless(m: u64, n: u64) -> Pair
     }
 }
 
+#[tactic(auto, unfolding(crate::specs::Dep::join))]
 pub fn join_endless(m: u64, x: u64, y: u64) -> Option<u64>
     ensures { result ≡ capped (join (endlesses m) x y) }
 {

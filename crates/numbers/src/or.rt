@@ -40,6 +40,7 @@ pub fn split(s: u64, t: u64, n: u64) -> Part
     Part::First(n - t)
 }
 
+#[tactic(auto, unfolding(crate::specs::Or::join))]
 pub fn join(s: u64, t: u64, p: Part) -> Option<u64>
     ensures { result ≡ capped (join (size_of s) (size_of t) p) }
 {

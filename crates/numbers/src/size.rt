@@ -37,6 +37,7 @@ pub fn product(s: u64, t: u64) -> Option<u64>
 }
 
 // One less: endless less one is endless.
+#[tactic(auto, unfolding(crate::specs::Size::less, crate::specs::Size::size_of))]
 pub fn one_less(s: u64) -> u64
     requires { 0 < s }
     ensures { result ≡ code_of (less (size_of s)) }

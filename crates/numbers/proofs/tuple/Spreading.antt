@@ -1,6 +1,5 @@
 -- A list by its place, number by number.
 --   Spread        what is done, and the list that is left, are the whole
---   none_spread   with nothing done
 --   lower_spread, at_spread   one more, which is below the largest number, or is that
 --   all_spread    all done
 -- Assumes nothing.
@@ -19,9 +18,6 @@ pub record Spread (t r d : ℕ) (parts : List ℕ) (left : ℕ) (seen : Bool) (j
   pub within : j ≤ t
   pub long : length parts ≡ t
   pub whole : take j parts ++ tail seen r (t - j) left ≡ tail false r t d
-
-pub none_spread : (t r d : ℕ) {parts : List ℕ} → length parts ≡ t → Spread t r d parts d false 0
-none_spread t r d e = let z : t - 0 ≡ t = omega arith in record { within = omega arith; long = e; whole = rw z }
 
 module _ {t r d : ℕ} {parts : List ℕ} {left : ℕ} {seen : Bool} {j : ℕ} (s : Spread t r d parts left seen j) where
   pub all_spread : t ≤ j → parts ≡ tail false r t d

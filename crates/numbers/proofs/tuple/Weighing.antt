@@ -1,10 +1,10 @@
 -- The ways as the code makes them.
 --   ways_low             having met r there are more ways
 --   ways_fits            they are words, where the power of r + 1 is one
---   AreWays              the ways of a count of parts
---   next_fits, next_is   from the ways of m to those of one more
+--   AreWays, none_ways   the ways of a count of parts, and of none
+--   next_fits, next_is   from the ways of m to those of one more; both_fit, both_next   both
 --   Weighed              the ways of the counts so far
---   none_weighed, one_weighed, all_weighed   of none, of one more, of all
+--   one_weighed   one more
 --   weight_is            what is read from them
 -- Assumes nothing.
 use mathlib.Core.Path.{◌≡◌, refl, ◌∙◌}
@@ -64,9 +64,6 @@ one_weighed {r} {m} all {w} s l k i b = by (eqb i m) refl
     by : (q : Bool) → eqb i m ≡ q → AreWays r i (get_or (set all m w) i nowhere)
     by true x = let z = eqb-true i m x in rw (z, get_or-set_same all m w nowhere l) k
     by false x = let z = eqb-false i m x in rw (get_or-set_other all m i w nowhere z) (s i (omega (arith, z)))
-
-pub all_weighed : {r : ℕ} (all : List Ways) → Weighed r all (length all) → Weights r all
-all_weighed all s = record { ways_met = λ m l. (s m l).met; ways_unmet = λ m l. (s m l).unmet }
 
 pub weight_is : {r : ℕ} (all : List Ways) (s : Weights r all) (seen : Bool) (m : ℕ) → m < length all → weight (get_or all m nowhere) seen ≡ ways seen r m
 weight_is all s true m l = s.ways_met m l

@@ -25,7 +25,7 @@ module _ (i j x y : ℕ) (r : Option ℕ) where
 
 pub returns-then-j-lt-ENDLESS : goal.returns-then-j-lt-ENDLESS
 returns-then-j-lt-ENDLESS c =
-    second _ _ _ _ _ c.if-j-lt-ENDLESS.true c.if-j-i.true c.product_and.ensures
+    second _ _ _ _ _ c.if-j-lt-ENDLESS.true (omega arith) c.product_and.ensures
 
 pub returns-then-j-i : goal.returns-then-j-i
 returns-then-j-i c =
@@ -33,7 +33,7 @@ returns-then-j-i c =
 
 pub returns-then-i-lt-ENDLESS : goal.returns-then-i-lt-ENDLESS
 returns-then-i-lt-ENDLESS c =
-    first _ _ _ _ _ c.if-i-lt-ENDLESS.true c.if-j-i.false c.product_and-then-i-lt-ENDLESS.ensures
+    first _ _ _ _ _ c.if-i-lt-ENDLESS.true (omega arith) c.product_and-then-i-lt-ENDLESS.ensures
 
 pub returns : goal.returns
 returns c =

@@ -39,26 +39,6 @@ pub returns-then-max-gt-ROOT_OF_LARGEST : goal.returns-then-max-gt-ROOT_OF_LARGE
 returns-then-max-gt-ROOT_OF_LARGEST c =
     is_big _ (past _ _ (omega arith))
 
-pub overflow_mul-y : goal.overflow_mul-y
-overflow_mul-y c =
-    omega (arith, small c.args.y (omega arith))
-
-pub overflow_add-y : goal.overflow_add-y
-overflow_add-y c =
-    omega (arith, small c.args.y (omega arith))
-
-pub overflow_mul-x : goal.overflow_mul-x
-overflow_mul-x c =
-    omega (arith, small c.args.x (omega arith))
-
-pub overflow_add-x : goal.overflow_add-x
-overflow_add-x c =
-    omega (arith, small c.args.x (omega arith))
-
-pub overflow_add-x-else-x-y : goal.overflow_add-x-else-x-y
-overflow_add-x-else-x-y c =
-    omega (arith, small c.args.x (omega arith))
-
 pub returns-then-x-y : goal.returns-then-x-y
 returns-then-x-y c =
     c.cap.ensures ∙ ap capped (less _ _ c.if-x-y.true)

@@ -7,9 +7,8 @@ use lib.ListN.{length, get_or}
 use Rattle.numbers.specs.Weights.{Weights, weight, nowhere}
 use Rattle.numbers.specs.Tuple.{ways}
 use Rattle.numbers.specs.declared.tuple.Ways.{Ways}
-use Rattle.numbers.proofs.tuple.Places.{some_ways}
 use Rattle.numbers.proofs.tuple.Weighing.{weight_is, next_fits}
-use Rattle.numbers.proofs.tuple.Spreading.{none_spread, lower_spread, at_spread, all_spread}
+use Rattle.numbers.proofs.tuple.Spreading.{lower_spread, at_spread, all_spread}
 use Rattle.numbers.proofs.tuple.spread.Goals.{then-left-r, else-left-r}
 use Rattle.numbers.proofs.tuple.spread.Goals as goal
 
@@ -22,24 +21,8 @@ module _ {t r j w : ℕ} (seen : Bool) (all : List Ways) (s : Weights r all) (l 
   fits : (r + 1) ^ length all < 2 ^ 63 → r * w < 2 ^ 63
   fits h = omega (arith, next_fits (length all) _ h seen (t - 1 - j) weighs refl (omega arith))
 
-pub loop-j-init : goal.loop-j-init
-loop-j-init c =
-    none_spread _ _ _ refl
-
 pub overflow_mul-r : goal.overflow_mul-r
 overflow_mul-r c =
-    omega (arith, fits _ _ c.requires.weights c.requires.long c.loop-j-test.true c.weight-w.ensures c.requires.fits)
-
-pub nonzero_div-part : goal.nonzero_div-part
-nonzero_div-part c =
-    some_ways _ _ _ c.if-left-r.true
-
-pub nonzero_rem-left : goal.nonzero_rem-left
-nonzero_rem-left c =
-    some_ways _ _ _ c.if-left-r.true
-
-pub overflow_mul-left : goal.overflow_mul-left
-overflow_mul-left c =
     omega (arith, fits _ _ c.requires.weights c.requires.long c.loop-j-test.true c.weight-w.ensures c.requires.fits)
 
 pub loop-j-preserved : goal.loop-j-preserved
