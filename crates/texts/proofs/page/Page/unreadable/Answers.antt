@@ -1,7 +1,7 @@
--- `texts::said::unreadable` puts its text.
+-- `texts::page::Page::unreadable` puts its text.
 -- Assumes nothing.
 use Rattle.texts.specs.Said.{unreadable_text}
-use Rattle.texts.proofs.said.unreadable.Goals as goal
+use Rattle.texts.proofs.page.Page.unreadable.Goals as goal
 
 pub returns : goal.returns
 unfolding unreadable_text
