@@ -1,10 +1,10 @@
--- `case_calls::write::call` prints what `write` answers, and that the other words are as they were.
+-- `case_calls::write::write_case` prints what `write` answers, and that the other words are as they were.
 -- Assumes nothing.
 use native.Mathlib.Omega.{arith}
 use Rattle.cases.proofs.Counted.{written_fits}
 use Rattle.texts.proofs.page.Putting.{◌then◌}
 use Rattle.case_calls.proofs.Writing.{prints_done, prints_refused}
-use Rattle.case_calls.proofs.write.call.Goals as goal
+use Rattle.case_calls.proofs.write.write_case.Goals as goal
 
 pub listed_line-requires : goal.listed_line-requires
 listed_line-requires c =
@@ -16,5 +16,4 @@ returns-in-Done c =
 
 pub returns-in-Refused : goal.returns-in-Refused
 returns-in-Refused c =
-    prints_refused _ c.fill.ensures c.write.ensures c.in-Refused.is
-    (c.refused-said.ensures then c.end_line.ensures)
+    prints_refused _ c.fill.ensures c.write.ensures c.in-Refused.is (c.refused.ensures then c.end_line.ensures)

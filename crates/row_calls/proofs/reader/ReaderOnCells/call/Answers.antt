@@ -1,6 +1,6 @@
 use Rattle.row_calls.proofs.Asking.{ask_none, nearer, ask_more, ask_end, ask_refused}
 use Rattle.rows.proofs.Values.{strode_is}
-use Rattle.row_calls.proofs.reader.call.Goals as goal
+use Rattle.row_calls.proofs.reader.ReaderOnCells.call.Goals as goal
 
 pub loop-found-init : goal.loop-found-init
 loop-found-init c =
@@ -12,7 +12,7 @@ loop-found-smaller c =
 
 pub loop-found-preserved : goal.loop-found-preserved
 loop-found-preserved c =
-    ask_more c.loop-found.invariant (strode_is _ _ _ _ _ c.read_at-stride.ensures) c.in-Item.is c.item_line-waiting.ensures
+    ask_more c.loop-found.invariant (strode_is _ _ _ _ _ c.read_at-stride.ensures) c.in-Item.is c.item_line.ensures
 
 pub returns-in-End : goal.returns-in-End
 returns-in-End c =
