@@ -7,6 +7,7 @@ use Rattle.rows.specs.Row.{leaves}
 use Rattle.rows.specs.declared.answer.Row.{Row}
 use Rattle.rows.specs.declared.answer.Row.TheVariants.{Done, Refused}
 use Rattle.texts.specs.Ascii.{bytes}
+use Rattle.texts.specs.declared.page.Page.{Page}
 use Rattle.texts.specs.Page.{Puts}
 use Rattle.asking.specs.Buffer.{start_words}
 use Rattle.asking.specs.Texts.{refused_item, items_text, cells_text}
@@ -15,6 +16,6 @@ unfoldable pub row_text : List ℕ → Row → List ℕ
 row_text words (Done items count) = items_text items ++ (cells_text count words ++ bytes "\n")
 row_text words (Refused r k item) = refused_item r k item ++ bytes "\n"
 
-pub record PrintsRow (words : List ℕ) (answer : Row) (old last page : List ℕ) (used : ℕ) (page' : List ℕ) (r : ℕ) : Type 0 where
-  pub puts : Puts (row_text words answer) page used page' r
+pub record PrintsRow (words : List ℕ) (answer : Row) (old last : List ℕ) (page page' : Page) : Type 0 where
+  pub puts : Puts (row_text words answer) page page'
   pub buffer : last ≡ leaves answer words (start_words 0 (length old))
