@@ -7,12 +7,8 @@ mod single;
 
 use bench_tables::draw::mixed_all;
 use bench_tables::tables::{MOST_POOL_WORDS, MOST_TABLE_WORDS, Shape, laid_out};
-use texts::line::{Line, numbers_at};
-
-// The streams' numbers, as the system has them.
-const STDIN_FILENO: i32 = 0;
-
-const STDOUT_FILENO: i32 = 1;
+use texts::line::numbers_at;
+use texts::streams::{STDIN_FILENO, STDOUT_FILENO};
 
 const MOST_CELLS: usize = 65536;
 
@@ -183,15 +179,13 @@ fn answer_line(
     numbers: &mut [u64; MOST_ITEMS],
     cells: &mut [u64; MOST_CELLS],
 ) -> usize {
-    match numbers_at(text, at, fields) {
-        Line::Numbers(_, next) => {
-            let workload = fields[0];
-            let times = fields[1] as usize;
-            say(workload, run(workload, times, table, pool, numbers, cells));
-            next
-        }
-        Line::Unreadable => 0,
-    }
+    let Some(line) = numbers_at(text, at, fields) else {
+        return 0;
+    };
+    let workload = fields[0];
+    let times = fields[1] as usize;
+    say(workload, run(workload, times, table, pool, numbers, cells));
+    line.next
 }
 
 fn answer_all(
