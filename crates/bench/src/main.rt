@@ -9,12 +9,8 @@ mod single;
 use bench_tables::draw::mixed_all;
 use bench_tables::tables::{MOST_POOL_WORDS, MOST_TABLE_WORDS, Words};
 use job::Job;
-use texts::line::{Line, numbers_at};
-
-// The streams' numbers, as the system has them.
-const STDIN_FILENO: i32 = 0;
-
-const STDOUT_FILENO: i32 = 1;
+use texts::line::numbers_at;
+use texts::streams::{STDIN_FILENO, STDOUT_FILENO};
 
 const MOST_CELLS: usize = 65536;
 
@@ -109,12 +105,12 @@ fn answer_all(text: &[u8], desk: &mut Desk) {
     let mut at = 0;
     for _ in 0..MOST_LINES {
         let mut fields = [0u64; 2];
-        let Line::Numbers(_, next) = numbers_at(text, at, &mut fields) else {
+        let Some(line) = numbers_at(text, at, &mut fields) else {
             return;
         };
         let [workload, times] = fields;
         say(workload, desk.run(workload, times as usize));
-        at = next;
+        at = line.next;
     }
 }
 

@@ -4,10 +4,8 @@ ghost use Rattle.texts.specs.Decimal.{decimal};
 ghost use Rattle.texts.specs.Line.{line_text, spaced};
 ghost use Rattle.texts.specs.Page.{Puts, place as place_of};
 
+use super::streams::STDOUT_FILENO;
 use itoa::Buffer;
-
-// Standard output's number, as the system has it.
-const STDOUT_FILENO: i32 = 1;
 
 pub const PAGE_BYTES: usize = 65536;
 
