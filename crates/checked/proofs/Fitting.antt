@@ -24,8 +24,8 @@ use Rattle.grammar.specs.declared.refusal.Refusal.TheVariants.{NoSuchNumber}
 use Rattle.grammar.specs.Rule.{Rule}
 use Rattle.grammar.specs.Plan.{rule_in}
 use Rattle.walk.specs.Walk.{walk, cells, depth}
-use Rattle.walk.specs.Room.{tallied}
-use Rattle.walk.specs.Laid.{left_of, Laid}
+use Rattle.walk.specs.Room.{RoomLeft, tallied}
+use Rattle.walk.specs.Laid.{Laid}
 use Rattle.lists.specs.Filled.{over}
 use Rattle.lists.proofs.Fills.{over_long}
 use Rattle.walk.proofs.Rooms.{tally_count}
@@ -66,8 +66,8 @@ module _ {plan p : List ℕ} {i : ℕ} (h : Reading plan p i) (n : ℕ) {b : Boo
     pub visits_of : Visits plan p i n
     visits_of = record { walks = h.walks; node = h.node; below = subst (Below n) (sym (h.walks.good.sized i h.node)) may.below }
 
-    pub decided_walk : (room : ℕ) {most : ℕ} (w : ℕ) {f : Fit} → most ≡ room_for room → f ≡ outcome most (left_of w)
-        → left_of w ≡ tallied most (walk (rule_in plan p) depth 0 i n) → f ≡ fitted (rule_in plan p) i n room
+    pub decided_walk : (room : ℕ) {most : ℕ} (w : RoomLeft) {f : Fit} → most ≡ room_for room → f ≡ outcome most w
+        → w ≡ tallied most (walk (rule_in plan p) depth 0 i n) → f ≡ fitted (rule_in plan p) i n room
     unfolding fitted
     decided_walk room w m e l = e ∙ rw (is_so, l, m)
 
@@ -92,21 +92,21 @@ module _ {plan p : List ℕ} {i : ℕ} (h : Reading plan p i) (n : ℕ) {b : Boo
   }
 
   -- the front of the buffer, as long as a case may be, is lent on
-  module _ (yes : b ≡ true) {most : ℕ} (w : ℕ) {f : Fit} (m : most ≡ room_for (length old)) (e : f ≡ outcome most (left_of w)) where
-    pub fits_long : {part : List ℕ} → Laid (length (take most old)) (walk (rule_in plan p) depth 0 i n) (take most old) part (left_of w)
+  module _ (yes : b ≡ true) {most : ℕ} (w : RoomLeft) {f : Fit} (m : most ≡ room_for (length old)) (e : f ≡ outcome most w) where
+    pub fits_long : {part : List ℕ} → Laid (length (take most old)) (walk (rule_in plan p) depth 0 i n) (take most old) part w
         → length (part ++ drop most old) ≡ length old
     fits_long l = simp length-append (omega (arith, l.long, lent_long old m, length-drop most old, m))
 
-    pub fits_walk : {part last : List ℕ} → Laid (length (take most old)) (walk (rule_in plan p) depth 0 i n) (take most old) part (left_of w)
+    pub fits_walk : {part last : List ℕ} → Laid (length (take most old)) (walk (rule_in plan p) depth 0 i n) (take most old) part w
         → last ≡ part ++ drop most old → FitOver (rule_in plan p) i n old last f
     fits_walk {part} {last} l g =
         let long : length (take most old) ≡ most = sym (lent_long old m) in
-        let is : left_of w ≡ tallied most (walk (rule_in plan p) depth 0 i n) = rw long at l.is in
+        let is : w ≡ tallied most (walk (rule_in plan p) depth 0 i n) = rw long at l.is in
         record {
           is = decided_walk h n a yes (length old) w m e is;
           long = rw g (fits_long l);
           holds = λ k q.
-              let (rest, x, y) = cells_left most k (left_of w) (sym e ∙ q) in
+              let (rest, x, y) = cells_left most k w (sym e ∙ q) in
               let count = tally_count most (walk (rule_in plan p) depth 0 i n) (sym is ∙ x) in
               g ∙ (ap (λ (xs : List ℕ). xs ++ drop most old) (l.holds rest x) ∙ over_part (cells (walk (rule_in plan p) depth 0 i n)) old most (omega arith));
           kept = λ u. absurd (false≢true (sym u ∙ is_so h n a yes));

@@ -1,15 +1,15 @@
 // One number on a checked table: "12, then the walk with the room left". This is the second pass, which writes.
-ghost use Rattle.std.specs.Prelude.{◌≡◌, ◌^◌, ◌<◌, ◌≤◌};
+ghost use Rattle.std.specs.Prelude.{◌≡◌, ℕ, ◌≤◌};
 ghost use Rattle.numbers.specs.Size.{size_of};
 ghost use Rattle.grammar.specs.Plan.{rule_in};
-ghost use Rattle.walk.specs.Laid.{left_of};
+ghost use Rattle.walk.specs.Room.{Left};
 ghost use Rattle.walk.specs.Plan.{Reading};
 ghost use Rattle.checked.specs.Fits.{room_for, outcome, FitOver};
 ghost use Rattle.checked.specs.Fits.{asked as is_asked};
 
 use grammar::refusal::Refusal;
 use laying::lay::lay;
-use laying::tally::TOO_DEEP;
+use laying::rest::Rest;
 use numbers::size::LARGEST;
 use walk::lent::Lent;
 
@@ -42,18 +42,15 @@ pub fn asked(size: u64, number: u64) -> bool
     false
 }
 
-// What a walk hands back, as an answer: the count of cells, or "of 13 and 14 the one first met".
-pub fn fit_of(most: usize, rest: usize) -> Fit
-    requires { rest < 2 ^ 63 → rest ≤ most }
-    ensures { result ≡ outcome most (left_of rest) }
+// What a walk leaves of the room, as an answer: the count of cells, or "of 13 and 14 the one first met".
+pub fn fit_of(most: usize, rest: Rest) -> Fit
+    requires { (k : ℕ) → rest ≡ Left k → k ≤ most }
+    ensures { result ≡ outcome most rest }
 {
-    if rest < TOO_DEEP {
-        return Fit::Cells(most - rest);
+    match rest.result() {
+        Ok(k) => Fit::Cells(most - k),
+        Err(stop) => Fit::Not(Refusal::from(stop)),
     }
-    if rest == TOO_DEEP {
-        return Fit::Not(Refusal::TooDeep);
-    }
-    Fit::Not(Refusal::NoRoom)
 }
 
 // It decides as the first pass does by the buffer's length, and writes what fits.

@@ -1,7 +1,7 @@
 use mathlib.Core.Path.{refl}
 use native.Mathlib.Omega.{arith}
 use lib.ListN.{length-set}
-use Rattle.walk.proofs.Rooms.{tallied_deep, left_within}
+use Rattle.walk.proofs.Rooms.{tallied_deep}
 use Rattle.laying.proofs.Lays.{lent_most, lent_set, laid_deep, laid_none, laid_stops, laid_two, laid_tag}
 use Rattle.walk.proofs.Visit.{walk_deep, walk_cell, walk_word, walk_pass, walk_same, walk_tag, walk_two, visited, next_by}
 use Rattle.numbers.specs.Size.{endless}
@@ -13,9 +13,9 @@ use Rattle.walk.proofs.Choosing.{choosing, dep_items, dep_low}
 use Rattle.laying.proofs.Calls.{laid_by, lay_part, lay_shift, to_tagged, to_both}
 use Rattle.laying.proofs.lay.+both_lay_tagged.Goals as goal
 
-pub both-lay-rest-requires : goal.both-lay-rest-requires
+pub both-lay-requires : goal.both-lay-requires
 unfolding rules
-both-lay-rest-requires t c = (
+both-lay-requires t c = (
   omega (arith, c.decreases),
   (
     (c.requires.visits_two.0, raised_zero _ _),
@@ -23,49 +23,9 @@ both-lay-rest-requires t c = (
   ),
 )
 
-pub both-shape_of-out-then-rest-ge-TOO_DEEP : goal.both-shape_of-out-then-rest-ge-TOO_DEEP
+pub both-lay-requires-in-Ok : goal.both-lay-requires-in-Ok
 unfolding rules
-both-shape_of-out-then-rest-ge-TOO_DEEP t c =
-    c.lay-rest.ensures.long
-
-pub both-returns-then-rest-ge-TOO_DEEP : goal.both-returns-then-rest-ge-TOO_DEEP
-unfolding rules
-both-returns-then-rest-ge-TOO_DEEP t c =
-    laid_stops _ c.lay-rest.ensures c.if-rest-ge-TOO_DEEP.true
-
-pub both-overflow_sub-k : goal.both-overflow_sub-k
-unfolding rules
-both-overflow_sub-k t c =
-    omega
-    (arith, left_within _ c.lay-rest.ensures.is c.if-rest-ge-TOO_DEEP.false, c.lay-rest.ensures.long, c.requires.left_bound.3)
-
-pub both-offset_bounds-out-k : goal.both-offset_bounds-out-k
-unfolding rules
-both-offset_bounds-out-k t c =
-    omega
-    (arith, left_within _ c.lay-rest.ensures.is c.if-rest-ge-TOO_DEEP.false, c.lay-rest.ensures.long, c.requires.left_bound.3)
-
-pub both-slice_bounds-lay-count : goal.both-slice_bounds-lay-count
-unfolding rules
-both-slice_bounds-lay-count t c =
-    omega
-    (arith, left_within _ c.lay-rest.ensures.is c.if-rest-ge-TOO_DEEP.false, c.lay-rest.ensures.long, c.requires.left_bound.3)
-
-pub both-slice_bounds-lay-start : goal.both-slice_bounds-lay-start
-unfolding rules
-both-slice_bounds-lay-start t c =
-    omega
-    (arith, left_within _ c.lay-rest.ensures.is c.if-rest-ge-TOO_DEEP.false, c.lay-rest.ensures.long, c.requires.left_bound.3)
-
-pub both-slice_bounds-lay-end : goal.both-slice_bounds-lay-end
-unfolding rules
-both-slice_bounds-lay-end t c =
-    omega
-    (arith, left_within _ c.lay-rest.ensures.is c.if-rest-ge-TOO_DEEP.false, c.lay-rest.ensures.long, c.requires.left_bound.3)
-
-pub both-lay-requires : goal.both-lay-requires
-unfolding rules
-both-lay-requires t c = (
+both-lay-requires-in-Ok t c = (
   omega (arith, c.decreases),
   (
     (c.requires.visits_two.1, raised_zero _ _),
@@ -73,26 +33,35 @@ both-lay-requires t c = (
       c.requires.left_bound.1,
       omega (arith, c.requires.left_bound.2),
       c.requires.left_bound.2,
-      lent_most _ c.lay-rest.ensures
-          c.requires.left_bound.3,
+      lent_most _ c.lay.ensures c.requires.left_bound.3,
     ),
   ),
 )
 
-pub both-shape_of-out : goal.both-shape_of-out
+pub both-shape_of-out-in-Ok : goal.both-shape_of-out-in-Ok
 unfolding rules
-both-shape_of-out t c =
-    (laid_two c.lay-rest.ensures c.if-rest-ge-TOO_DEEP.false refl c.lay.ensures refl).long
+both-shape_of-out-in-Ok t c =
+    (laid_two c.lay.ensures c.in-Ok.ensures refl c.lay-in-Ok.ensures refl).long
 
-pub both-returns : goal.both-returns
+pub both-returns-in-Ok : goal.both-returns-in-Ok
 unfolding rules
-both-returns t c =
-    laid_two c.lay-rest.ensures c.if-rest-ge-TOO_DEEP.false refl c.lay.ensures refl
+both-returns-in-Ok t c =
+    laid_two c.lay.ensures c.in-Ok.ensures refl c.lay-in-Ok.ensures refl
+
+pub both-shape_of-out-in-Err : goal.both-shape_of-out-in-Err
+unfolding rules
+both-shape_of-out-in-Err t c =
+    c.lay.ensures.long
+
+pub both-returns-in-Err : goal.both-returns-in-Err
+unfolding rules
+both-returns-in-Err t c =
+    rw c.stopped.ensures (laid_stops _ c.lay.ensures c.in-Err.stop c.in-Err.ensures)
 
 pub lay-returns-then-left-eq0 : goal.lay-returns-then-left-eq0
 unfolding rules
 lay-returns-then-left-eq0 t c =
-    laid_by (walk_deep _ _ _ _ c.if-left-eq0.true) (laid_deep refl (tallied_deep _))
+    rw c.stopped.ensures (laid_by (walk_deep _ _ _ _ c.if-left-eq0.true) (laid_deep refl (tallied_deep _)))
 
 pub lay-overflow_mul-kind : goal.lay-overflow_mul-kind
 unfolding rules
@@ -384,7 +353,7 @@ lay-returns-in_default t c =
 pub tagged-returns-then-out-eq0 : goal.tagged-returns-then-out-eq0
 unfolding rules
 tagged-returns-then-out-eq0 t c =
-    laid_none _ _ c.if-out-eq0.true
+    rw c.stopped.ensures (laid_none _ _ c.if-out-eq0.true)
 
 pub tagged-slice_bounds-lay-count : goal.tagged-slice_bounds-lay-count
 unfolding rules

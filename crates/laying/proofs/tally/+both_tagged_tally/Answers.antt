@@ -1,40 +1,41 @@
 use mathlib.Core.Path.{refl, ◌∙◌}
 use native.Mathlib.Omega.{arith}
-use Rattle.walk.proofs.Rooms.{tallied_deep, tallied_full, tallied_cell, left_within, two_stops, two_left}
+use Rattle.walk.proofs.Rooms.{tallied_deep, tallied_full, tallied_cell, left_within, two_left}
 use Rattle.walk.proofs.Visit.{walk_deep, walk_cell, walk_pass, walk_tag, walk_two, visited, next_by}
 use Rattle.numbers.specs.Size.{endless}
 use Rattle.grammar.proofs.laws.{rules}
 use Rattle.walk.proofs.Nodes.{in_plan, known, items_by, parts_by, part_at, two_in, two_some}
 use Rattle.walk.proofs.Choosing.{choosing, dep_items, dep_low}
+use Rattle.laying.proofs.Lays.{both_stop}
 use Rattle.laying.proofs.Calls.{tally_by, tally_any, tally_up, tally_part, to_tagged, to_both}
 use Rattle.laying.proofs.tally.+both_tagged_tally.Goals as goal
-
-pub both-tally-rest-requires : goal.both-tally-rest-requires
-unfolding rules
-both-tally-rest-requires t c =
-    (omega (arith, c.decreases), (c.requires.visits_two.0, (c.requires.left_bound.0, c.requires.left_bound.2, c.requires.left_bound.3)))
-
-pub both-returns-then-rest-ge-TOO_DEEP : goal.both-returns-then-rest-ge-TOO_DEEP
-unfolding rules
-both-returns-then-rest-ge-TOO_DEEP t c =
-    two_stops _ _ _ _ c.tally-rest.ensures c.if-rest-ge-TOO_DEEP.true
 
 pub both-tally-requires : goal.both-tally-requires
 unfolding rules
 both-tally-requires t c =
+    (omega (arith, c.decreases), (c.requires.visits_two.0, (c.requires.left_bound.0, c.requires.left_bound.2, c.requires.left_bound.3)))
+
+pub both-tally-requires-in-Ok : goal.both-tally-requires-in-Ok
+unfolding rules
+both-tally-requires-in-Ok t c =
     let l = c.requires.left_bound in
-    let room = left_within _ c.tally-rest.ensures c.if-rest-ge-TOO_DEEP.false in
+    let room = left_within _ (c.in-Ok.ensures ∙ c.tally.ensures) in
     (omega (arith, c.decreases), (c.requires.visits_two.1, (l.1, l.2, omega (arith, l.3, room))))
 
-pub both-returns : goal.both-returns
+pub both-returns-in-Ok : goal.both-returns-in-Ok
 unfolding rules
-both-returns t c =
-    two_left _ _ _ _ c.tally-rest.ensures c.if-rest-ge-TOO_DEEP.false c.tally.ensures
+both-returns-in-Ok t c =
+    two_left _ _ _ (c.in-Ok.ensures ∙ c.tally.ensures) c.tally-in-Ok.ensures
+
+pub both-returns-in-Err : goal.both-returns-in-Err
+unfolding rules
+both-returns-in-Err t c =
+    c.stopped.ensures ∙ both_stop _ _ _ c.in-Err.stop (c.in-Err.ensures ∙ c.tally.ensures)
 
 pub tagged-returns-then-room-eq0 : goal.tagged-returns-then-room-eq0
 unfolding rules
 tagged-returns-then-room-eq0 t c =
-    tallied_full _ _ _ c.if-room-eq0.true
+    c.stopped.ensures ∙ tallied_full _ _ _ c.if-room-eq0.true
 
 pub tagged-tally-requires : goal.tagged-tally-requires
 unfolding rules
@@ -49,7 +50,7 @@ tagged-returns t c =
 pub tally-returns-then-left-eq0 : goal.tally-returns-then-left-eq0
 unfolding rules
 tally-returns-then-left-eq0 t c =
-    tally_by _ (walk_deep _ _ _ _ c.if-left-eq0.true) (tallied_deep _)
+    tally_by _ (walk_deep _ _ _ _ c.if-left-eq0.true) (c.stopped.ensures ∙ tallied_deep _)
 
 pub tally-overflow_mul-kind : goal.tally-overflow_mul-kind
 unfolding rules
