@@ -17,13 +17,6 @@ pub const DEPTH: usize = 200;
 
 pub const MOST_CELLS: usize = 65536;
 
-// The count of the case's cells, or why it is refused.
-#[derive(Drop)]
-pub enum Fit {
-    Cells(usize),
-    Not(Refusal),
-}
-
 // "a longer buffer to write into counts as that long for one case"
 pub fn room_for(room: usize) -> usize
     ensures { result ≡ room_for room }
@@ -41,22 +34,28 @@ pub fn asked(size: u64, number: u64) -> bool
     false
 }
 
-// What a walk hands back, as an answer: the count of cells, or "of 13 and 14 the one first met".
-pub fn fit_of(most: usize, rest: usize) -> Fit
+// What a walk hands back, as an answer: the count of the case's cells, or "of 13 and 14 the one first met".
+pub fn fit_of(most: usize, rest: usize) -> Result<usize, Refusal>
     requires { rest < 2 ^ 63 → rest ≤ most }
     ensures { result ≡ outcome most (left_of rest) }
 {
     if rest < TOO_DEEP {
-        return Fit::Cells(most - rest);
+        return Ok(most - rest);
     }
     if rest == TOO_DEEP {
-        return Fit::Not(Refusal::TooDeep);
+        return Err(Refusal::TooDeep);
     }
-    Fit::Not(Refusal::NoRoom)
+    Err(Refusal::NoRoom)
 }
 
 // It decides as the first pass does by the buffer's length, and writes what fits.
-pub fn fits<'a>(pool: &'a [u64], plan: &'a [u64], start: usize, number: u64, out: &mut [u64]) -> Fit
+pub fn fits<'a>(
+    pool: &'a [u64],
+    plan: &'a [u64],
+    start: usize,
+    number: u64,
+    out: &mut [u64],
+) -> Result<usize, Refusal>
     requires { Reading plan.now pool.now start }
     ensures { FitOver (rule_in plan.now pool.now) start number out.old out.new result }
 {
@@ -66,5 +65,5 @@ pub fn fits<'a>(pool: &'a [u64], plan: &'a [u64], start: usize, number: u64, out
         let rest = lay(&lent, start, number, 0, DEPTH, &mut out[..most]);
         return fit_of(most, rest);
     }
-    Fit::Not(Refusal::NoSuchNumber)
+    Err(Refusal::NoSuchNumber)
 }
