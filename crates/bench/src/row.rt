@@ -1,7 +1,8 @@
 // Workloads on rows of short cases.
 use super::single::{refused, touch};
 use bench_tables::draw::{drawn_below, mixed, word_at};
-use rows::{Next, Row};
+use grammar::refusal::Refused;
+use rows::Next;
 
 // Numbers below this have short cases.
 const SHORT: u64 = 100;
@@ -15,8 +16,8 @@ pub fn draw_short(numbers: &mut [u64]) {
 // The cells used, 0 where the row is refused.
 fn written(table: &[u64], pool: &[u64], start: usize, numbers: &[u64], cells: &mut [u64]) -> usize {
     match rows::write_row(table, pool, start, numbers, cells) {
-        Row::Done(_, used) => used,
-        Row::Refused(_, _, _) => 0,
+        Ok(row) => row.cells,
+        Err(_) => 0,
     }
 }
 
@@ -50,8 +51,8 @@ fn read_front(
         return 0;
     }
     match rows::read_row(table, pool, start, &cells[..used], numbers) {
-        Row::Done(items, _) => items as u64,
-        Row::Refused(refusal, node, item) => mixed(refused(refusal, node), item as u64),
+        Ok(row) => row.items as u64,
+        Err(e) => mixed(refused(e.refusal, e.node), e.item as u64),
     }
 }
 
@@ -74,11 +75,11 @@ pub fn read_often(
     sum
 }
 
-fn answer_of(answer: Next) -> u64 {
+fn answer_of(answer: Result<Option<Next>, Refused>) -> u64 {
     match answer {
-        Next::Item(number, count) => mixed(number, count as u64),
-        Next::End => 0,
-        Next::Refused(refusal, node) => refused(refusal, node),
+        Ok(Some(next)) => mixed(next.number, next.cells as u64),
+        Ok(None) => 0,
+        Err(e) => refused(e.refusal, e.node),
     }
 }
 

@@ -1,7 +1,6 @@
 // Workloads on one case at a time.
 use bench_tables::draw::{drawn_below, mixed, word_at};
-use cases::{Found, Written};
-use grammar::refusal::{Refusal, Verdict, number_of};
+use grammar::refusal::{Refusal, number_of};
 
 // How often each written case is read, so that the writing is drowned.
 const READINGS: usize = 16;
@@ -20,8 +19,8 @@ pub fn touch(table: &mut [u64], kind: u64) {
 
 fn checked(table: &[u64], pool: &[u64]) -> u64 {
     match cases::check(table, pool) {
-        Verdict::Accepted => 0,
-        Verdict::Refused(refusal, node) => refused(refusal, node),
+        Ok(()) => 0,
+        Err(e) => refused(e.refusal, e.node),
     }
 }
 
@@ -36,10 +35,7 @@ pub fn check_often(table: &mut [u64], pool: &[u64], kind: u64, times: usize) -> 
 
 // The count of cells, 0 where the number is refused.
 fn written(table: &[u64], pool: &[u64], start: usize, number: u64, cells: &mut [u64]) -> usize {
-    match cases::write(table, pool, start, number, cells) {
-        Written::Done(count) => count,
-        Written::Refused(_, _) => 0,
-    }
+    cases::write(table, pool, start, number, cells).unwrap_or(0)
 }
 
 pub fn write_often(
@@ -66,8 +62,8 @@ fn read_front(table: &[u64], pool: &[u64], start: usize, cells: &[u64], count: u
         return 0;
     }
     match cases::read(table, pool, start, &cells[..count]) {
-        Found::Number(number) => number,
-        Found::Refused(refusal, node) => refused(refusal, node),
+        Ok(number) => number,
+        Err(e) => refused(e.refusal, e.node),
     }
 }
 

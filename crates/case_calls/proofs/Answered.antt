@@ -9,9 +9,9 @@ use Prim.Native.Nat.{ℕ, ◌-◌}
 use lib.ListN.{take, drop}
 use borrow.Author.Tests.{not-true, not-false}
 use Rattle.grammar.specs.Verdict.{verdict}
-use Rattle.grammar.specs.declared.refusal.Verdict.{Verdict}
+use Rattle.grammar.specs.Refusals.{Verdict}
 use Rattle.cases.specs.Read.{reads}
-use Rattle.cases.specs.declared.reading.Found.{Found}
+use Rattle.cases.specs.Read.{Found}
 use Rattle.texts.specs.Ascii.{bytes}
 use Rattle.texts.specs.Said.{unreadable_text}
 use Rattle.asking.specs.Same.{same}

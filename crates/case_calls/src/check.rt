@@ -3,7 +3,6 @@ ghost use Rattle.texts.specs.Page.{Puts};
 ghost use Rattle.case_calls.specs.Check.{check_call};
 
 use asking::same::same;
-use grammar::refusal::Verdict;
 use texts::page::{PAGE_BYTES, put_text};
 use texts::said::{refused_line, unreadable};
 
@@ -21,7 +20,7 @@ pub fn answer(
         return unreadable(page, used);
     }
     match cases::check(table, pool) {
-        Verdict::Accepted => put_text(b"accepted\n", page, used),
-        Verdict::Refused(refusal, node) => refused_line(refusal, node, page, used),
+        Ok(()) => put_text(b"accepted\n", page, used),
+        Err(e) => refused_line(e.refusal, e.node, page, used),
     }
 }

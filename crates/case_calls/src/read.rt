@@ -4,7 +4,6 @@ ghost use Rattle.case_calls.specs.Read.{read_call};
 
 use asking::answers::number_line;
 use asking::fields::{AFTER_START, Cells, MOST_FIELDS, take_cells};
-use cases::Found;
 use texts::page::PAGE_BYTES;
 use texts::said::{refused_line, unreadable};
 
@@ -24,7 +23,7 @@ pub fn answer(
     };
     let words: &[u64] = fields;
     match cases::read(table, pool, start, &words[AFTER_START..count]) {
-        Found::Number(found) => number_line(found, page, used),
-        Found::Refused(refusal, node) => refused_line(refusal, node, page, used),
+        Ok(found) => number_line(found, page, used),
+        Err(e) => refused_line(e.refusal, e.node, page, used),
     }
 }

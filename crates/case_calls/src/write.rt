@@ -6,7 +6,6 @@ ghost use Rattle.case_calls.specs.Write.{PrintsCase, write_leaves, write_call};
 use asking::answers::{end_line, listed_line};
 use asking::buffer::fill;
 use asking::fields::{AFTER_ROOM, Lent, MOST_FIELDS, take_row};
-use cases::Written;
 use texts::page::PAGE_BYTES;
 use texts::said::{refused, unreadable};
 
@@ -57,9 +56,9 @@ fn call(
 {
     fill(cells);
     match cases::write(table, pool, start, number, cells) {
-        Written::Done(count) => listed_line(count, cells, count, page, used),
-        Written::Refused(refusal, node) => {
-            let said = refused(refusal, node, page, used);
+        Ok(count) => listed_line(count, cells, count, page, used),
+        Err(e) => {
+            let said = refused(e.refusal, e.node, page, used);
             end_line(cells, 0, page, said)
         }
     }

@@ -31,9 +31,8 @@ use Rattle.lists.proofs.Fills.{over_long}
 use Rattle.walk.proofs.Rooms.{tally_count}
 use Rattle.walk.specs.Plan.{Visits, Reading}
 use Rattle.laying.specs.Sure.{Sure}
-use Rattle.checked.specs.Fits.{asked, Asked, room_for, case_cells, outcome, fitted, FitOver, places, Placed}
-use Rattle.checked.specs.declared.fits.Fit.{Fit}
-use Rattle.checked.specs.declared.fits.Fit.TheVariants.{Cells, Not}
+use Rattle.checked.specs.Fits.{asked, Asked, room_for, Fit, case_cells, outcome, fitted, FitOver, places, Placed}
+use Rattle.std.specs.Prelude.{Ok, Err}
 use Rattle.checked.proofs.Fitted.{was_asked, cells_left, fitted_is}
 
 -- ---- a number against the word of a size
@@ -51,7 +50,7 @@ module _ {plan p : List ℕ} {i : ℕ} (h : Reading plan p i) (n : ℕ) {b : Boo
   asked_here = a ∙ ap (λ (s : Size). asked s n) (h.walks.good.sized i h.node)
 
   -- ---- refused before the walk
-  pub decided_12 : (room : ℕ) → b ≡ false → Not NoSuchNumber ≡ fitted (rule_in plan p) i n room
+  pub decided_12 : (room : ℕ) → b ≡ false → Err NoSuchNumber ≡ fitted (rule_in plan p) i n room
   unfolding fitted
   decided_12 room e = rw (← asked_here, e)
 
@@ -83,7 +82,7 @@ over_part (c ∷ cs) [] (suc k) l = refl
 over_part (c ∷ cs) (x ∷ old) (suc k) l = ap (λ (xs : List ℕ). c ∷ xs) (over_part cs old k (le_of_suc-le-suc l))
 
 module _ {plan p : List ℕ} {i : ℕ} (h : Reading plan p i) (n : ℕ) {b : Bool} (a : b ≡ asked (size_of (get_or plan (4 * i + 3) 0)) n) (old : List ℕ) where
-  pub fits_12 : b ≡ false → FitOver (rule_in plan p) i n old old (Not NoSuchNumber)
+  pub fits_12 : b ≡ false → FitOver (rule_in plan p) i n old old (Err NoSuchNumber)
   fits_12 e = record {
     is = decided_12 h n a (length old) e;
     long = refl;
@@ -115,10 +114,10 @@ module _ {plan p : List ℕ} {i : ℕ} (h : Reading plan p i) (n : ℕ) {b : Boo
 -- ---- a case that is written whole or not at all
 -- a number that may be refused by 12 alone, since 13 and 14 are decided before anything is written
 abbrev Settled : (ℕ → Rule) → ℕ → ℕ → ℕ → Type 0
-Settled g i n room = (r : Refusal) → fitted g i n room ≡ Not r → asked (g i).size n ≡ false
+Settled g i n room = (r : Refusal) → fitted g i n room ≡ Err r → asked (g i).size n ≡ false
 
 -- a number whose cells are counted is settled
-pub settled_cells : (g : ℕ → Rule) (i n room : ℕ) {f : Fit} → f ≡ fitted g i n room → {k : ℕ} → f ≡ Cells k → Settled g i n room
+pub settled_cells : (g : ℕ → Rule) (i n room : ℕ) {f : Fit} → f ≡ fitted g i n room → {k : ℕ} → f ≡ Ok k → Settled g i n room
 settled_cells g i n room e q = λ r u. let z : ◌≡◌ {A = ℕ} 0 1 = cc in absurd (omega arith)
 
 -- where every case fits, the only refusal is 12
@@ -132,7 +131,7 @@ settled_sure {plan} {p} {i} h n old m s r q = by (asked (rule_in plan p i).size 
         let a = was_asked (rule_in plan p i).size n u in
         let b = subst (Below n) (sym (h.walks.good.sized i h.node)) a.below in
         let w = s.fits p n (record { walks = h.walks; node = h.node; below = b }) in
-        let k : fitted (rule_in plan p) i n (length old) ≡ Cells (length w.case) = fitted_is (rule_in plan p) i n (length old) w.case a w.shows
+        let k : fitted (rule_in plan p) i n (length old) ≡ Ok (length w.case) = fitted_is (rule_in plan p) i n (length old) w.case a w.shows
         (omega (arith, w.few, m)) in
         let z : ◌≡◌ {A = ℕ} 0 1 = cc in
         absurd (omega arith)
@@ -142,12 +141,12 @@ module _ {g : ℕ → Rule} {i n : ℕ} {old : List ℕ} where
   placed {last} {f} s e = record { is = e.is; holds = by f refl }
     where
       by : (r : Fit) → f ≡ r → last ≡ places f (case_cells g i n) old
-      by (Cells k) q = rw q (e.holds k q)
-      by (Not r) q = rw q (e.kept (s r (sym e.is ∙ q)))
+      by (Ok k) q = rw q (e.holds k q)
+      by (Err r) q = rw q (e.kept (s r (sym e.is ∙ q)))
 
-  pub placed_not : {f : Fit} → f ≡ fitted g i n (length old) → {r : Refusal} → f ≡ Not r → Placed g i n old old (Not r)
+  pub placed_not : {f : Fit} → f ≡ fitted g i n (length old) → {r : Refusal} → f ≡ Err r → Placed g i n old old (Err r)
   placed_not e q = record { is = sym q ∙ e; holds = refl }
 
   pub placed_long : {last : List ℕ} {f : Fit} → Placed g i n old last f → length last ≡ length old
-  placed_long {f = Cells k} w = over_long (case_cells g i n) old w.holds
-  placed_long {f = Not r} w = ap length w.holds
+  placed_long {f = Ok k} w = over_long (case_cells g i n) old w.holds
+  placed_long {f = Err r} w = ap length w.holds

@@ -18,13 +18,6 @@ pub const DEPTH: usize = 200;
 
 pub const MOST_CELLS: usize = 65536;
 
-// The count of the case's cells, or why it is refused.
-#[derive(Drop)]
-pub enum Fit {
-    Cells(usize),
-    Not(Refusal),
-}
-
 // "a longer buffer to write into counts as that long for one case"
 pub fn room_for(room: usize) -> usize
     ensures { result ≡ room_for room }
@@ -42,19 +35,22 @@ pub fn asked(size: u64, number: u64) -> bool
     false
 }
 
-// What a walk leaves of the room, as an answer: the count of cells, or "of 13 and 14 the one first met".
-pub fn fit_of(most: usize, rest: Rest) -> Fit
+// What a walk leaves of the room, as an answer: the count of the case's cells, or "of 13 and 14 the one first met".
+pub fn fit_of(most: usize, rest: Rest) -> Result<usize, Refusal>
     requires { (k : ℕ) → rest ≡ Left k → k ≤ most }
     ensures { result ≡ outcome most rest }
 {
-    match rest.result() {
-        Ok(k) => Fit::Cells(most - k),
-        Err(stop) => Fit::Not(Refusal::from(stop)),
-    }
+    Ok(most - rest.result()?)
 }
 
 // It decides as the first pass does by the buffer's length, and writes what fits.
-pub fn fits<'a>(pool: &'a [u64], plan: &'a [u64], start: usize, number: u64, out: &mut [u64]) -> Fit
+pub fn fits<'a>(
+    pool: &'a [u64],
+    plan: &'a [u64],
+    start: usize,
+    number: u64,
+    out: &mut [u64],
+) -> Result<usize, Refusal>
     requires { Reading plan.now pool.now start }
     ensures { FitOver (rule_in plan.now pool.now) start number out.old out.new result }
 {
@@ -64,5 +60,5 @@ pub fn fits<'a>(pool: &'a [u64], plan: &'a [u64], start: usize, number: u64, out
         let rest = lay(&lent, start, number, 0, DEPTH, &mut out[..most]);
         return fit_of(most, rest);
     }
-    Fit::Not(Refusal::NoSuchNumber)
+    Err(Refusal::NoSuchNumber)
 }

@@ -34,7 +34,7 @@ use Rattle.grammar.specs.Steps.{steps_of, Step, Leads, Unguarded, ExceptOnCycle}
 use Rattle.grammar.specs.Plan.{size_in, Ready}
 use Rattle.grammar.specs.Verdict.{leads, unguarded, except_on_cycle, cycles}
 use Rattle.grammar.specs.declared.refusal.Refusal.TheVariants.{Unguarded as Rule9, ExceptOnCycle as Rule10}
-use Rattle.grammar.specs.declared.refusal.Verdict.TheVariants.{Accepted, Refused}
+use Rattle.grammar.specs.Refusals.{accepted, refused}
 use Rattle.numbers.proofs.Tests.{and_left, and_right}
 use Rattle.numbers.specs.Size.{Size}
 use Rattle.cycles.specs.Asked.{asked, OnCycle}
@@ -189,21 +189,21 @@ module _ {t p : List ℕ} {z : ℕ → Size} (c : Checked t p z) where
   except_is = lowest_of (λ n. (rule_at t p z n).skips && leads true t p z n n) (nodes t) c.few except? (λ k w. cycle_in true c k w.cycle)
 
   pub cycles_by : {u e : ℕ} → Lowest (Unguarded t p z) u → Lowest (ExceptOnCycle t p z) e
-      → pick (ltb u 256) (Refused Rule9 u) (pick (ltb e 256) (Refused Rule10 e) Accepted) ≡ cycles t p z
+      → pick (ltb u 256) (refused Rule9 u) (pick (ltb e 256) (refused Rule10 e) accepted) ≡ cycles t p z
   unfolding cycles
   cycles_by f h = rw (lowest_one unguarded_is f, lowest_one except_is h)
 
 module _ {t p plan : List ℕ} (r : Ready t p plan) where
-  pub cycles_9 : {u : ℕ} → Lowest (Unguarded t p (size_in plan)) u → u < 256 → Refused Rule9 u ≡ cycles t p (size_in plan)
+  pub cycles_9 : {u : ℕ} → Lowest (Unguarded t p (size_in plan)) u → u < 256 → refused Rule9 u ≡ cycles t p (size_in plan)
   cycles_9 {u} f l = rw (lt-ltb u 256 l) at (cycles_by r.checked f (except_is r.checked))
 
   module _ {u : ℕ} (f : Lowest (Unguarded t p (size_in plan)) u) (none : 256 ≤ u) {e : ℕ} (h : Lowest (ExceptOnCycle t p (size_in plan)) e) where
-    pub cycles_10 : e < 256 → Refused Rule10 e ≡ cycles t p (size_in plan)
+    pub cycles_10 : e < 256 → refused Rule10 e ≡ cycles t p (size_in plan)
     cycles_10 l = rw (le-ltb u 256 none, lt-ltb e 256 l) at (cycles_by r.checked f h)
 
-    pub cycles_none : 256 ≤ e → Accepted ≡ cycles t p (size_in plan)
+    pub cycles_none : 256 ≤ e → accepted ≡ cycles t p (size_in plan)
     cycles_none l = rw (le-ltb u 256 none, le-ltb e 256 l) at (cycles_by r.checked f h)
 
-  pub cycles_no_again : {b : Bool} → (b ≡ false → (n : ℕ) → n < nodes t → get_or t (3 * n) 0 ≡ 9 → ⊥) → b ≡ false → Accepted ≡ cycles t p (size_in plan)
+  pub cycles_no_again : {b : Bool} → (b ≡ false → (n : ℕ) → n < nodes t → get_or t (3 * n) 0 ≡ 9 → ⊥) → b ≡ false → accepted ≡ cycles t p (size_in plan)
   cycles_no_again f e =
       cycles_none (nowhere (no_cycle false r (f e))) (le_refl 256) (nowhere (λ k w. no_cycle true r (f e) k w.cycle)) (le_refl 256)

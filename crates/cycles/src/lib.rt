@@ -13,7 +13,7 @@ ghost use Rattle.grammar.specs.Plan.{size_in, Ready};
 ghost use Rattle.grammar.specs.Verdict.{cycles};
 
 use grammar::kinds::AGAIN;
-use grammar::refusal::{Refusal, Verdict};
+use grammar::refusal::{Refusal, Refused};
 use safety::all_safe;
 use search::{NONE, lowest_asked};
 
@@ -51,20 +51,26 @@ fn except_on_cycle(table: &[u64], pool: &[u64], plan: &[u64]) -> u64
 }
 
 // "then cycles": any 9 comes before any 10. A table with no again is not searched.
-pub fn judge(table: &[u64], pool: &[u64], plan: &[u64]) -> Verdict
+pub fn judge(table: &[u64], pool: &[u64], plan: &[u64]) -> Result<(), Refused>
     requires { Ready table.now pool.now plan.now }
     ensures { result ≡ cycles table.now pool.now (size_in plan.now) }
 {
     if has_again(table) {
         let u = unguarded(table, pool, plan);
         if u < NONE {
-            return Verdict::Refused(Refusal::Unguarded, u);
+            return Err(Refused {
+                refusal: Refusal::Unguarded,
+                node: u,
+            });
         }
         let e = except_on_cycle(table, pool, plan);
         if e < NONE {
-            return Verdict::Refused(Refusal::ExceptOnCycle, e);
+            return Err(Refused {
+                refusal: Refusal::ExceptOnCycle,
+                node: e,
+            });
         }
-        return Verdict::Accepted;
+        return Ok(());
     }
-    Verdict::Accepted
+    Ok(())
 }

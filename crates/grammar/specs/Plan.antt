@@ -9,7 +9,7 @@
 --   Ready      the table is checked, with the sizes of the plan
 --   AllWeighed the first fault and its node, or the plan of the whole table
 -- Assumes nothing.
-use Rattle.std.specs.Prelude.{◌≡◌, List, ℕ, ◌+◌, ◌*◌, ◌≤◌, ◌<◌, length, get_or, set}
+use Rattle.std.specs.Prelude.{◌≡◌, List, ℕ, ◌+◌, ◌*◌, ◌≤◌, ◌<◌, length, get_or, set, Ok, Err}
 use Rattle.numbers.specs.Size.{Size, code_of, size_of}
 use Rattle.grammar.specs.Table.{kind_of, a_of, b_of, nodes}
 use Rattle.grammar.specs.Checks.{Row, fault, sized, row}
@@ -22,8 +22,7 @@ use Rattle.grammar.specs.Sizes.{size_at, scan, passed, faulty, sizes}
 use Rattle.numbers.specs.declared.size.Measured.{Measured}
 use Rattle.numbers.specs.declared.size.Measured.TheVariants.{Of as Measures, Past}
 use Rattle.grammar.specs.declared.refusal.Refusal.TheVariants.{TooLarge}
-use Rattle.grammar.specs.declared.refusal.Verdict.{Verdict}
-use Rattle.grammar.specs.declared.refusal.Verdict.TheVariants.{Accepted, Refused}
+use Rattle.grammar.specs.Refusals.{Verdict}
 use Rattle.grammar.specs.declared.kinds.Weighed.{Weighed}
 use Rattle.grammar.specs.declared.kinds.Weighed.TheVariants.{Fault, Of}
 
@@ -74,8 +73,8 @@ pub record Planned (t : List ℕ) (zs : List Size) (n : ℕ) (plan : List ℕ) :
 
 -- ---- what the nodes of a table show, rising
 abbrev pub WeighedBy : List ℕ → List ℕ → List ℕ → Verdict → Type 0
-WeighedBy t p plan Accepted = (scan t p (nodes t) ≡ passed (sizes t p)) × Planned t (sizes t p) (nodes t) plan
-WeighedBy t p plan (Refused r k) = scan t p (nodes t) ≡ faulty r k
+WeighedBy t p plan (Ok u) = (scan t p (nodes t) ≡ passed (sizes t p)) × Planned t (sizes t p) (nodes t) plan
+WeighedBy t p plan (Err e) = scan t p (nodes t) ≡ faulty e.refusal e.node
 
 pub record AllWeighed (t p plan : List ℕ) (v : Verdict) : Type 0 where
   pub is : WeighedBy t p plan v

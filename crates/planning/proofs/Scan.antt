@@ -15,7 +15,7 @@ use Rattle.grammar.specs.Nodes.{row_at}
 use Rattle.grammar.specs.Sizes.{passed, size_at, onward, scan, sizes}
 use Rattle.grammar.specs.Plan.{size_in, rowed, coded, Planned, AllWeighed}
 use Rattle.grammar.specs.declared.refusal.Refusal.{Refusal}
-use Rattle.grammar.specs.declared.refusal.Verdict.TheVariants.{Accepted, Refused}
+use Rattle.grammar.specs.Refusals.{accepted, refused}
 use Rattle.grammar.specs.declared.kinds.Weighed.{Weighed}
 use Rattle.grammar.specs.declared.kinds.Weighed.TheVariants.{Fault, Of}
 use Rattle.planning.proofs.Plans.{plan_none, plan_more, plan_sizes}
@@ -65,13 +65,13 @@ module _ {t p old plan : List ℕ} {n : ℕ} (c : Weighing t p old n plan) (l : 
   pub weighing_more : {s : ℕ} {next : List ℕ} → w ≡ Of s → next ≡ rowed plan n (kind_of t n) (a_of t n) (b_of t n) s → Weighing t p old (n + 1) next
   weighing_more f g = let (s, r, q) = coded_of (row_at t p (size_at c.zs) n) (sym here ∙ f) in turn s r q g
 
-  pub weighing_fault : {r : Refusal} {last : List ℕ} → w ≡ Fault r → AllWeighed t p last (Refused r n)
+  pub weighing_fault : {r : Refusal} {last : List ℕ} → w ≡ Fault r → AllWeighed t p last (refused r n)
   unfolding scan onward
   weighing_fault f =
       let r = coded_fault (row_at t p (size_at c.zs) n) (sym here ∙ f) in
       record { is = stays t p (nodes t) (suc n) l (rw (c.is, r)) }
 
-pub weighing_end : {t p old plan : List ℕ} {n : ℕ} → Weighing t p old n plan → nodes t ≤ n → AllWeighed t p plan Accepted
+pub weighing_end : {t p old plan : List ℕ} {n : ℕ} → Weighing t p old n plan → nodes t ≤ n → AllWeighed t p plan accepted
 unfolding sizes
 weighing_end {t} {p} {old} {plan} {n} c l =
     let e : n ≡ nodes t = omega (arith, c.le) in

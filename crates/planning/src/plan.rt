@@ -7,7 +7,7 @@ ghost use Rattle.grammar.specs.Nodes.{row_at};
 ghost use Rattle.grammar.specs.Plan.{size_in, coded, rowed, AllWeighed};
 
 use grammar::kinds::{KINDS, Weighed, row, used_words};
-use grammar::refusal::{Refusal, Verdict};
+use grammar::refusal::{Refusal, Refused};
 
 // "a word not used is zero". Of a kind that is not known nothing is spare, so that its row refuses it (2).
 fn spare_words(kind: usize, a: u64, b: u64, used: &[[bool; 2]; KINDS]) -> bool
@@ -47,7 +47,7 @@ fn put_row(plan: &mut [u64], n: usize, kind: u64, a: u64, b: u64, size: u64)
 }
 
 // "then nodes rising": the first fault and its node, or the plan of them all.
-pub fn weigh_all(table: &[u64], pool: &[u64], plan: &mut [u64]) -> Verdict
+pub fn weigh_all(table: &[u64], pool: &[u64], plan: &mut [u64]) -> Result<(), Refused>
     requires table_len { length table.now ≡ 3 * nodes table.now }
     requires plan_value { (plan.old ≡ replicate (length plan.old) 0) × (4 * nodes table.now ≤ length plan.old) }
     ensures { AllWeighed table.now pool.now plan.new result }
@@ -57,13 +57,16 @@ pub fn weigh_all(table: &[u64], pool: &[u64], plan: &mut [u64]) -> Verdict
     for n in 0..count {
         let w = weigh(table, pool, plan, n, &used);
         match w {
-            Weighed::Fault(r) => {
-                return Verdict::Refused(r, n as u64);
+            Weighed::Fault(refusal) => {
+                return Err(Refused {
+                    refusal,
+                    node: n as u64,
+                });
             }
             Weighed::Of(s) => {
                 put_row(plan, n, table[3 * n], table[3 * n + 1], table[3 * n + 2], s);
             }
         }
     }
-    Verdict::Accepted
+    Ok(())
 }

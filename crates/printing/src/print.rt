@@ -7,10 +7,9 @@ ghost use Rattle.printing.specs.Input.{pool_line, one_at, with_start, with_pool}
 ghost use Rattle.printing.specs.Printed.{case_line, told, printed, Judges, Answers};
 
 use super::input::{INPUT_ROOM, One, POOL_WORDS, TABLE_WORDS, one_at, one_each};
-use cases::Written;
 use checked::opened::begin;
 use checked::prepared::PLAN;
-use grammar::refusal::{Refusal, Verdict, number_of};
+use grammar::refusal::{Refusal, Refused, number_of};
 use texts::line::{Line, numbers_at};
 use texts::page::{PAGE_BYTES, flush, put_line, put_number, put_text};
 use texts::said::{refused_line, unreadable};
@@ -98,13 +97,13 @@ fn judge(
     ensures { Judges text.now from table.now pool.now first page.old page.new result }
 {
     match start(table, pool, first) {
-        Verdict::Accepted => put_cases(table, pool, first, text, from, page),
-        Verdict::Refused(r, k) => refused_line(r, k, page, 0),
+        Ok(()) => put_cases(table, pool, first, text, from, page),
+        Err(e) => refused_line(e.refusal, e.node, page, 0),
     }
 }
 
 // "A refused table or start prints only `refused N at K`"
-fn start(table: &[u64], pool: &[u64], start: usize) -> Verdict
+fn start(table: &[u64], pool: &[u64], start: usize) -> Result<(), Refused>
     ensures { result ≡ opening table.now pool.now start }
 {
     let mut plan = [0u64; PLAN];
@@ -148,8 +147,8 @@ fn put_answer(
 {
     let mut cells = [0u64; ROOM];
     match cases::write(table, pool, first, n, &mut cells) {
-        Written::Done(count) => put_case(n, &cells[..count], page, used),
-        Written::Refused(r, _) => put_case_refused(n, r, page, used),
+        Ok(count) => put_case(n, &cells[..count], page, used),
+        Err(e) => put_case_refused(n, e.refusal, page, used),
     }
 }
 

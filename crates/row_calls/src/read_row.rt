@@ -9,7 +9,6 @@ ghost use Rattle.row_calls.specs.ReadRow.{read_row_leaves, read_row_call};
 use asking::answers::{done_line, refused_at_item};
 use asking::buffer::fill;
 use asking::fields::{AFTER_ROOM, Lent, MOST_FIELDS, take_row};
-use rows::Row;
 use texts::page::PAGE_BYTES;
 use texts::said::unreadable;
 
@@ -58,9 +57,7 @@ fn call(
 {
     fill(numbers);
     match rows::read_row(table, pool, start, cells, numbers) {
-        Row::Done(items, count) => done_line(items, count, numbers, items, page, used),
-        Row::Refused(refusal, node, item) => {
-            refused_at_item(refusal, node, item, numbers, page, used)
-        }
+        Ok(row) => done_line(row.items, row.cells, numbers, row.items, page, used),
+        Err(e) => refused_at_item(e.refusal, e.node, e.item, numbers, page, used),
     }
 }

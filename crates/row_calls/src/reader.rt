@@ -5,7 +5,6 @@ ghost use Rattle.row_calls.specs.Reader.{asks_text, reader_call};
 
 use asking::answers::item_line;
 use asking::fields::{AFTER_START, Cells, MOST_FIELDS, take_cells};
-use rows::Next;
 use texts::page::{PAGE_BYTES, put_text};
 use texts::said::{refused_line, unreadable};
 
@@ -44,15 +43,15 @@ fn call(
         let stride = rows::read_at(table, pool, start, row, at);
         let handed = stride.answer;
         match handed {
-            Next::Item(found, cells) => {
-                waiting = item_line(found, cells, page, waiting);
+            Ok(Some(next)) => {
+                waiting = item_line(next.number, next.cells, page, waiting);
                 at = stride.at;
             }
-            Next::End => {
+            Ok(None) => {
                 return put_text(b"end\n", page, waiting);
             }
-            Next::Refused(refusal, node) => {
-                return refused_line(refusal, node, page, waiting);
+            Err(e) => {
+                return refused_line(e.refusal, e.node, page, waiting);
             }
         }
     }

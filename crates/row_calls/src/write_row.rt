@@ -9,7 +9,6 @@ ghost use Rattle.row_calls.specs.WriteRow.{write_row_leaves, write_row_call};
 use asking::answers::{done_line, refused_at_item};
 use asking::buffer::fill;
 use asking::fields::{AFTER_ROOM, Lent, MOST_FIELDS, take_row};
-use rows::Row;
 use texts::page::PAGE_BYTES;
 use texts::said::unreadable;
 
@@ -57,9 +56,7 @@ fn call(
 {
     fill(cells);
     match rows::write_row(table, pool, start, numbers, cells) {
-        Row::Done(items, count) => done_line(items, count, cells, count, page, used),
-        Row::Refused(refusal, node, item) => {
-            refused_at_item(refusal, node, item, cells, page, used)
-        }
+        Ok(row) => done_line(row.items, row.cells, cells, row.cells, page, used),
+        Err(e) => refused_at_item(e.refusal, e.node, e.item, cells, page, used),
     }
 }

@@ -11,14 +11,14 @@ unfolding check_text
 returns-then-not-same c =
     told (search check_not) c.unreadable.ensures
 
-pub returns-in-Accepted : goal.returns-in-Accepted
+pub returns-in-Ok : goal.returns-in-Ok
 unfolding check_text
-returns-in-Accepted c =
+returns-in-Ok c =
     told (check_text_lem _ _ _ c.same.ensures (rw c.if-not-same.false) (check_is _ _ c.check.ensures)
-    c.in-Accepted.is) c.put_text.ensures
+    c.in-Ok.is) c.put_text.ensures
 
-pub returns-in-Refused : goal.returns-in-Refused
+pub returns-in-Err : goal.returns-in-Err
 unfolding check_text
-returns-in-Refused c =
+returns-in-Err c =
     told (check_text_lem _ _ _ c.same.ensures (rw c.if-not-same.false) (check_is _ _ c.check.ensures)
-    c.in-Refused.is) c.refused_line.ensures
+    c.in-Err.is) c.refused_line.ensures

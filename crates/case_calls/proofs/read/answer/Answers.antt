@@ -28,14 +28,14 @@ unfolding found_text read_call
 slice_bounds-read-end c =
     omega (arith, cells_fit c.take_cells.ensures c.in-Asked.is)
 
-pub returns-in-Number : goal.returns-in-Number
+pub returns-in-Ok : goal.returns-in-Ok
 unfolding found_text read_call
-returns-in-Number c =
-    let said = read_text_lem _ _ c.take_cells.ensures c.in-Asked.is (read_is _ _ _ _ c.read.ensures) c.in-Number.is in
+returns-in-Ok c =
+    let said = read_text_lem _ _ c.take_cells.ensures c.in-Asked.is (read_is _ _ _ _ c.read.ensures) c.in-Ok.is in
     record { puts = told said c.number_line.ensures; leaves = c.take_cells.ensures.leaves }
 
-pub returns-in-Refused : goal.returns-in-Refused
+pub returns-in-Err : goal.returns-in-Err
 unfolding found_text read_call
-returns-in-Refused c =
-    let said = read_text_lem _ _ c.take_cells.ensures c.in-Asked.is (read_is _ _ _ _ c.read.ensures) c.in-Refused.is in
+returns-in-Err c =
+    let said = read_text_lem _ _ c.take_cells.ensures c.in-Asked.is (read_is _ _ _ _ c.read.ensures) c.in-Err.is in
     record { puts = told said c.refused_line.ensures; leaves = c.take_cells.ensures.leaves }

@@ -7,19 +7,19 @@ use Rattle.row_calls.proofs.read_row.call.Goals as goal
 
 pub done_line-requires : goal.done_line-requires
 done_line-requires c =
-    omega (arith, got_fits c.read_row.ensures c.in-Done.is)
+    omega (arith, got_fits c.read_row.ensures c.in-Ok.is)
 
-pub returns-in-Done : goal.returns-in-Done
-returns-in-Done c =
+pub returns-in-Ok : goal.returns-in-Ok
+returns-in-Ok c =
     let at-args = c in
-    let (size, words) = got_words at-args.args.numbers.now c.fill.ensures c.read_row.ensures c.in-Done.is in
+    let (size, words) = got_words at-args.args.numbers.now c.fill.ensures c.read_row.ensures c.in-Ok.is in
     row_done _ _ c.fill.ensures (got_holds at-args.args.numbers.now c.fill.ensures c.read_row.ensures)
-    (got at-args.args.numbers.now c.fill.ensures c.read_row.ensures) c.in-Done.is size words
+    (got at-args.args.numbers.now c.fill.ensures c.read_row.ensures) c.in-Ok.is size words
     c.done_line.ensures
 
-pub returns-in-Refused : goal.returns-in-Refused
-returns-in-Refused c =
+pub returns-in-Err : goal.returns-in-Err
+returns-in-Err c =
     let at-args = c in
     row_refused _ _ c.fill.ensures (got_holds at-args.args.numbers.now c.fill.ensures c.read_row.ensures)
-    (got at-args.args.numbers.now c.fill.ensures c.read_row.ensures) c.in-Refused.is
+    (got at-args.args.numbers.now c.fill.ensures c.read_row.ensures) c.in-Err.is
     c.refused_at_item.ensures
