@@ -9,7 +9,7 @@
 --   Ready      the table is checked, with the sizes of the plan
 --   AllWeighed the first fault and its node, or the plan of the whole table
 -- Assumes nothing.
-use Rattle.std.specs.Prelude.{◌≡◌, List, ℕ, ◌+◌, ◌*◌, ◌≤◌, ◌<◌, length, get_or, set, Ok, Err}
+use Rattle.std.specs.Prelude.{◌≡◌, List, ℕ, ◌+◌, ◌*◌, ◌≤◌, ◌<◌, length, get_or, set, Option, Some, None, Ok, Err}
 use Rattle.numbers.specs.Size.{Size, code_of, size_of}
 use Rattle.grammar.specs.Table.{kind_of, a_of, b_of, nodes}
 use Rattle.grammar.specs.Checks.{Row, fault, sized, row}
@@ -19,8 +19,6 @@ use Rattle.grammar.specs.Kind.{Node, Kind, before}
 use Rattle.grammar.specs.kinds.{kind_in}
 use Rattle.grammar.specs.Checked.{Checked}
 use Rattle.grammar.specs.Sizes.{size_at, scan, passed, faulty, sizes}
-use Rattle.numbers.specs.declared.size.Measured.{Measured}
-use Rattle.numbers.specs.declared.size.Measured.TheVariants.{Of as Measures, Past}
 use Rattle.grammar.specs.declared.refusal.Refusal.TheVariants.{TooLarge}
 use Rattle.grammar.specs.Refusals.{Verdict}
 use Rattle.grammar.specs.declared.kinds.Weighed.{Weighed}
@@ -53,9 +51,9 @@ coded (fault r) = Fault r
 coded (sized s) = Of (code_of s)
 
 -- a measured size in the same words
-unfoldable pub weighed_of : Measured → Weighed
-weighed_of (Measures s) = Of s
-weighed_of Past = Fault TooLarge
+unfoldable pub weighed_of : Option ℕ → Weighed
+weighed_of (Some s) = Of s
+weighed_of None = Fault TooLarge
 
 -- z has the sizes, of which a row looks at those before it
 unfoldable pub weighed : Kind → Node → (ℕ → Size) → Weighed

@@ -11,7 +11,7 @@ ghost use Rattle.grammar.specs.Named.{Names};
 
 use super::named::{Named, none, one, two};
 use super::refusal::Refusal;
-use numbers::size::{ENDLESS, Measured};
+use numbers::size::ENDLESS;
 
 pub mod again;
 pub mod below;
@@ -94,12 +94,12 @@ pub enum Place {
 }
 
 // A size, or (8) "when a finite size passes 2^62".
-fn of_measured(m: Measured) -> Weighed
+fn of_measured(m: Option<u64>) -> Weighed
     ensures { result ≡ weighed_of m }
 {
     match m {
-        Measured::Of(s) => Weighed::Of(s),
-        Measured::Past => Weighed::Fault(Refusal::TooLarge),
+        Some(s) => Weighed::Of(s),
+        None => Weighed::Fault(Refusal::TooLarge),
     }
 }
 

@@ -8,7 +8,7 @@ ghost use Rattle.taking.specs.Took.{Celled, Passed, TakenOwn};
 ghost use Rattle.walk.specs.Lent.{pool_of};
 
 use grammar::kinds::{Place, below, pool};
-use numbers::joined::{cap, word};
+use numbers::joined::{BIG, cap};
 use walk::lent::Lent;
 
 pub const DEEP: u64 = 9223372036854775809;
@@ -48,7 +48,7 @@ pub fn any(row: &&[u64], off: u64, at: &mut usize) -> u64
     match cell_at(*row, k, off) {
         Cell::Of(c) => {
             *at = k + 1;
-            word(cap(c))
+            cap(c).unwrap_or(BIG)
         }
         Cell::Stops(w) => w,
     }

@@ -16,7 +16,7 @@ use native.Mathlib.Omega.{arith}
 use lib.Dec.{eqb}
 use lib.ListN.{length, get_or}
 use borrow.Author.Tests.{eqb-true}
-use Rattle.numbers.specs.Size.{Size, Below, Some, size_of}
+use Rattle.numbers.specs.Size.{Size, Below, NotZero, size_of}
 use Rattle.numbers.proofs.size.SizeWords.{by_size}
 use Rattle.grammar.specs.Rule.{Item, part, Rule}
 use Rattle.grammar.specs.Kind.{Node, Kind, before}
@@ -32,8 +32,8 @@ use Rattle.walk.specs.Plan.{Reading, Visits, Raised}
 use Rattle.walk.proofs.Visit.{visited}
 
 -- a word of a size that is not 0
-pub some_word : (w : ℕ) → Some (size_of w) → 0 < w
-some_word w = by_size (λ s. Some s → 0 < w) w (λ l h. h) (λ l h. omega arith)
+pub some_word : (w : ℕ) → NotZero (size_of w) → 0 < w
+some_word w = by_size (λ s. NotZero s → 0 < w) w (λ l h. h) (λ l h. omega arith)
 
 -- ---- the rule, by the kind word
 pub tree_of : {q r : Rule} → q ≡ r → q.tree ≡ r.tree

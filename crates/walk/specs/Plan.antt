@@ -6,7 +6,7 @@
 --   Raised     what the shifts above a node may add to its first cell
 -- Assumes nothing.
 use Rattle.std.specs.Prelude.{◌≡◌, true, ◌||◌, ◌⊎◌, List, ℕ, ◌+◌, ◌*◌, ◌≤◌, ◌<◌, length, get_or, take, drop}
-use Rattle.numbers.specs.Size.{Below, Some}
+use Rattle.numbers.specs.Size.{Below, NotZero}
 use Rattle.grammar.specs.Law.{Good, Holds}
 use Rattle.grammar.specs.Kind.{before}
 use Rattle.grammar.specs.kinds.{kind_in}
@@ -20,7 +20,7 @@ pub record Walkable (plan p : List ℕ) : Type 0 where
   pub long : 4 * count ≤ length plan
   pub good : Good (size_in plan) count (rule_in plan p)
   pub holds : (i : ℕ) → i < count → Holds ((kind_in (kind_word plan i)).checks (node_in plan p count i) (before (size_in plan) i))
-  pub some : (i : ℕ) → i < count → Some (size_in plan i)
+  pub some : (i : ℕ) → i < count → NotZero (size_in plan i)
   pub short : length plan ≤ 1024
   pub slight : length p ≤ 4096
 

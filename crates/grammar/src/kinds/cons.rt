@@ -9,7 +9,7 @@ ghost use Rattle.grammar.specs.Shown.{ShowsTwo};
 
 use super::super::refusal::Refusal;
 use super::{Two, Weighed, of_measured};
-use numbers::joined::word;
+use numbers::joined::BIG;
 use numbers::size;
 
 pub fn check(plan: &[u64], n: usize, a: usize, b: usize) -> Weighed
@@ -46,5 +46,5 @@ pub fn join(plan: &[u64], a: usize, b: usize, x: u64, y: u64) -> u64
     requires { (4 * a + 3 < length plan.now) × (4 * b + 3 < length plan.now) }
     ensures { result ≡ word_of (capped (Cons.join (size_in plan.now a) (size_in plan.now b) x y)) }
 {
-    word(numbers::cons::join(plan[4 * a + 3], plan[4 * b + 3], x, y))
+    numbers::cons::join(plan[4 * a + 3], plan[4 * b + 3], x, y).unwrap_or(BIG)
 }

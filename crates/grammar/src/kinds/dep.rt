@@ -17,7 +17,7 @@ use super::super::named::Named;
 use super::super::refusal::Refusal;
 use super::{Two, Weighed};
 use numbers::cons::Pair;
-use numbers::joined::{Joined, word};
+use numbers::joined::BIG;
 use numbers::size::{ENDLESS, LARGEST};
 
 // "its size m finite, at most 256"
@@ -150,7 +150,7 @@ fn before(pool: &[u64], plan: &[u64], b: usize, x: usize) -> u64
 }
 
 // The number of a dep's case: x is the first part's number, y that of the second that it chooses.
-fn joined(pool: &[u64], plan: &[u64], a: usize, b: usize, x: u64, y: u64) -> Joined
+fn joined(pool: &[u64], plan: &[u64], a: usize, b: usize, x: u64, y: u64) -> Option<u64>
     requires { DepIn plan.now pool.now a b × (x < firsts plan.now a) }
     ensures { result ≡ capped (Dep.join (seconds_sized plan.now pool.now a b) x y) }
 {
@@ -166,7 +166,7 @@ pub fn join(pool: &[u64], plan: &[u64], a: usize, b: usize, x: u64, y: u64) -> u
     requires { DepIn plan.now pool.now a b × (x < firsts plan.now a) }
     ensures { result ≡ word_of (capped (Dep.join (seconds_sized plan.now pool.now a b) x y)) }
 {
-    word(joined(pool, plan, a, b, x, y))
+    joined(pool, plan, a, b, x, y).unwrap_or(BIG)
 }
 
 // "to a dep's first and each second"

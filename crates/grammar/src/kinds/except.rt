@@ -8,7 +8,7 @@ ghost use Rattle.grammar.specs.Plan.{size_in, weighed};
 
 use super::super::refusal::Refusal;
 use super::Weighed;
-use numbers::joined::word;
+use numbers::joined::BIG;
 use numbers::size;
 use numbers::size::LARGEST;
 
@@ -37,5 +37,5 @@ pub fn join(b: u64, m: u64) -> u64
     requires { m ≡ b → ⊥ }
     ensures { result ≡ word_of (capped (Except.join b m)) }
 {
-    word(numbers::except::join(b, m))
+    numbers::except::join(b, m).unwrap_or(BIG)
 }

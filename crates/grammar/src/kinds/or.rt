@@ -13,7 +13,7 @@ ghost use Rattle.grammar.specs.Shown.{ShowsTagged};
 use super::super::named::{Named, one, two};
 use super::super::refusal::Refusal;
 use super::{Tagged, Weighed, of_measured};
-use numbers::joined::word;
+use numbers::joined::BIG;
 use numbers::or::Part;
 use numbers::size;
 
@@ -81,5 +81,5 @@ pub fn join(plan: &[u64], tag: u64, c: usize, m: u64) -> u64
     requires { (tag ≤ 1) × (4 * c + 3 < length plan.now) }
     ensures { result ≡ word_of (capped (Or.turn tag (size_in plan.now c) m)) }
 {
-    word(numbers::or::turned(tag, plan[4 * c + 3], m))
+    numbers::or::turned(tag, plan[4 * c + 3], m).unwrap_or(BIG)
 }
