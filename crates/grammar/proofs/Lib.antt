@@ -13,7 +13,6 @@ pub mod Checked
 pub mod Faults
 pub mod SecondsInTurn
 pub mod Joins
-pub mod Places
 pub mod Known
 pub mod Opened
 pub mod Stepping

@@ -2,19 +2,20 @@
 --   pair_row   the row of or and of cons
 --   Tally      what a pass over nodes cs shows of them: f of them are finite, with the sum s as far as it is measured
 --   not_lower  the row of seconds that are not all lower
---   Passing    the pass over the first i words of a run, all of it lower nodes
+--   Passing    the pass over the first i words of a dep, all of them lower nodes
 --   turn_..    a turn of it; end-.. the row that it ends in
 -- Assumes nothing.
-use mathlib.Core.Path.{◌≡◌, refl, sym, ◌∙◌}
+use Rattle.grammar.specs.declared.entry.Entry.{Entry}
+use mathlib.Core.Path.{◌≡◌, refl, sym}
 use mathlib.Core.Bool.{Bool, true, false, not, ◌&&◌, false≢true}
 use mathlib.Core.List.{List, [], ◌∷◌, ◌++◌}
 use Prim.Native.Nat.{ℕ, ◌+◌, ◌^◌, ◌≤◌, ◌<◌}
 use native.Mathlib.Numerals.{add-one}
 use native.Mathlib.Omega.{arith}
-use lib.ListN.{length, get_or, take, drop, length-take, length-drop, length-append}
-use lib.Dec.{ltb, leb}
-use lib.Seq.{get_or-drop, take-suc}
-use borrow.Author.Tests.{lt-ltb, le-leb, lt-leb, leb-false, not-true, not-false}
+use lib.ListN.{length, get_or, take, length-take, length-append}
+use lib.Dec.{ltb, leb, eqb}
+use lib.Seq.{take-suc, take_all}
+use borrow.Author.Tests.{eqb-true, eqb-false, ltb-true, lt-ltb, le-leb, lt-leb, leb-false}
 use Rattle.numbers.specs.Size.{Size, finite, endless, plus, measured}
 use Rattle.numbers.specs.Pick.{pick}
 use Rattle.std.specs.Prelude.{Option, Some, None}
@@ -23,13 +24,12 @@ use Rattle.grammar.specs.Checks.{is_endless, all_lower, all_endless, all_finite,
 use Rattle.lists.specs.Lists.{every}
 use Rattle.grammar.specs.Kind.{before}
 use Rattle.grammar.specs.kinds.Dep.{seconds_row}
-use Rattle.grammar.specs.Plan.{size_in, coded, weighed_of}
+use Rattle.grammar.specs.Plan.{size_in, size_word, coded, weighed_of}
 use Rattle.grammar.specs.declared.refusal.Refusal.TheVariants.{Reference, UnsuitedPart, TooLarge}
-use Rattle.grammar.specs.declared.kinds.Weighed.{Weighed}
-use Rattle.grammar.specs.declared.kinds.Weighed.TheVariants.{Fault, Of as Weighs}
+use Rattle.grammar.specs.declared.refusal.Refusal.{Refusal}
+use Rattle.std.specs.Prelude.{Result, Ok, Err}
 use Rattle.numbers.proofs.Tests.{and_left}
-use Rattle.grammar.proofs.Runs.{word_at, lower_run}
-use Rattle.lists.proofs.Runs.{run_long}
+use Rattle.lists.proofs.Runs.{every_at}
 
 -- a size that is measured, and the last check of a row
 pub measured_row : (s : Size) → weighed_of (measured s) ≡ coded (row (asks (fits s) TooLarge ∷ []) s)
@@ -42,11 +42,11 @@ measured_row (finite s) = by (leb s (2 ^ 62))
 measured_row endless = refl
 
 -- the row of or and of cons, whose parts are lower: f is their sum or their product
-pub pair_row : (f : Size → Size → Size) (z : ℕ → Size) (n a b : ℕ) {m : Option ℕ} {w : Weighed} → a < n → b < n
+pub pair_row : (f : Size → Size → Size) (z : ℕ → Size) (n a b : ℕ) {m : Option ℕ} {w : Result ℕ Refusal} → ltb a n ≡ true → ltb b n ≡ true
     → m ≡ measured (f (z a) (z b)) → w ≡ weighed_of m
     → let s = f (before z n a) (before z n b) in w ≡ coded (row (asks (ltb a n && ltb b n) Reference ∷ asks (fits s) TooLarge ∷ []) s)
 unfolding row
-pair_row f z n a b l k m w = rw (w, m, lt-ltb a n l, lt-ltb b n k) (measured_row (f (z a) (z b)))
+pair_row f z n a b l k m w = rw (w, m, l, k) (measured_row (f (z a) (z b)))
 
 -- ---- one node more
 and_swap : (a b c : Bool) → (a && (b && c)) ≡ (b && (a && c))
@@ -148,77 +148,70 @@ module _ (n : ℕ) {z : ℕ → Size} {cs : List ℕ} {f s : ℕ} (low : all_low
   tally_all e = rw (← (t.all e).1, low, (t.all e).0) (measured_row (total z cs))
 
   module _ (l : f < length cs) where
-    tally_no_finite : f ≡ 0 → Weighs (2 ^ 63) ≡ coded (seconds_row n z cs)
+    tally_no_finite : f ≡ 0 → Ok (2 ^ 63) ≡ coded (seconds_row n z cs)
     unfolding row coded
     tally_no_finite e = rw (low, t.not_all l, t.none e, endless_total z cs (t.none e) (t.not_all l))
 
-    tally_mixed : 0 < f → Fault UnsuitedPart ≡ coded (seconds_row n z cs)
+    tally_mixed : 0 < f → Err UnsuitedPart ≡ coded (seconds_row n z cs)
     unfolding row coded
     tally_mixed k = rw (low, t.not_all l, t.not_none k)
 
--- ---- the same over a run of the pool, by the facts that the code has
+-- ---- the same over the words of a dep, by the facts that the code has
 -- "each of those m words a lower node"
-pub not_lower : (n : ℕ) (z : ℕ → Size) (cs : List ℕ) {b : Bool} → b ≡ all_lower n cs → not b ≡ true → Fault Reference ≡ coded (seconds_row n z cs)
+pub not_lower : (n : ℕ) (z : ℕ → Size) (cs : List ℕ) → all_lower n cs ≡ false → Err Reference ≡ coded (seconds_row n z cs)
 unfolding row coded
-not_lower n z cs {b} e f = rw (← e, not-true b f)
+not_lower n z cs e = rw e
 
-pub record Passing (plan p : List ℕ) (n at count f s i : ℕ) : Type 0 where
-  pub le : i ≤ count
-  pub in_p : at + count ≤ length p
-  pub lower : all_lower n (take count (drop at p)) ≡ true
-  pub is : Tally (before (size_in plan) n) (take i (drop at p)) f s
+pub record Passing (plan : List Entry) (n : ℕ) (ws : List ℕ) (f s i : ℕ) : Type 0 where
+  pub le : i ≤ length ws
+  pub lower : all_lower n ws ≡ true
+  pub is : Tally (before (size_in plan) n) (take i ws) f s
 
-pub turn_none : {plan p : List ℕ} {n at count : ℕ} {b : Bool} → at + count ≤ length p → b ≡ all_lower n (take count (drop at p)) → not b ≡ false
-    → Passing plan p n at count 0 0 0
-turn_none {b} h e f = record { le = omega arith; in_p = h; lower = sym e ∙ not-false b f; is = tally_none }
+pub turn_none : {plan : List Entry} {n : ℕ} {ws : List ℕ} → all_lower n ws ≡ true → Passing plan n ws 0 0 0
+turn_none e = record { le = omega arith; lower = e; is = tally_none }
 
-module _ {plan p : List ℕ} {n at count f s i : ℕ} (r : Passing plan p n at count f s i) where
+module _ {plan : List Entry} {n : ℕ} {ws : List ℕ} {f s i : ℕ} (r : Passing plan n ws f s i) where
   pub turn_few : f ≤ i
-  turn_few = omega (arith, r.is.most, length-take i (drop at p))
+  turn_few = omega (arith, r.is.most, length-take i ws)
 
-  module _ (l : i < count) where
-    pub turn_lower : get_or p (at + i) 0 < n
-    turn_lower = lower_run n p at count r.in_p r.lower i l
+  module _ (l : i < length ws) where
+    pub turn_lower : get_or ws i 0 < n
+    turn_lower = ltb-true (get_or ws i 0) n (every_at (λ c. ltb c n) ws i l r.lower)
 
-    more : {g q : ℕ} → Tally (before (size_in plan) n) (take i (drop at p) ++ (get_or p (at + i) 0 ∷ [])) g q → Passing plan p n at count g q (i + 1)
-    more t =
-        let w : i < length (drop at p) = simp length-drop (omega arith) in
-        record { le = omega arith; in_p = r.in_p; lower = r.lower; is = rw (add-one, take-suc (drop at p) i 0 w, get_or-drop at p i 0) t }
+    more : {g q : ℕ} → Tally (before (size_in plan) n) (take i ws ++ (get_or ws i 0 ∷ [])) g q → Passing plan n ws g q (i + 1)
+    more t = record { le = omega arith; lower = r.lower; is = rw (add-one, take-suc ws i 0 l) t }
 
-    pub turn_endless : 2 ^ 63 ≤ word_at plan p at i → Passing plan p n at count f s (i + 1)
-    turn_endless h = more (tally_endless r.is _ (rw (lt-ltb _ n turn_lower) (sized_endless (word_at plan p at i) h)))
+    pub turn_endless : 2 ^ 63 ≤ size_word plan (get_or ws i 0) → Passing plan n ws f s (i + 1)
+    turn_endless h = more (tally_endless r.is _ (rw (lt-ltb _ n turn_lower) (sized_endless (size_word plan (get_or ws i 0)) h)))
 
-    module _ (h : word_at plan p at i < 2 ^ 63) where
-      sized : before (size_in plan) n (get_or p (at + i) 0) ≡ finite (word_at plan p at i)
-      sized = rw (lt-ltb _ n turn_lower) (sized_finite (word_at plan p at i) h)
+    module _ (h : size_word plan (get_or ws i 0) < 2 ^ 63) where
+      sized : before (size_in plan) n (get_or ws i 0) ≡ finite (size_word plan (get_or ws i 0))
+      sized = rw (lt-ltb _ n turn_lower) (sized_finite (size_word plan (get_or ws i 0)) h)
 
-      pub turn_adds : s ≤ 2 ^ 62 → Passing plan p n at count (f + 1) (s + word_at plan p at i) (i + 1)
-      turn_adds k = more (tally_finite r.is _ sized (sum_more s (word_at plan p at i) _ k))
+      pub turn_adds : s ≤ 2 ^ 62 → Passing plan n ws (f + 1) (s + size_word plan (get_or ws i 0)) (i + 1)
+      turn_adds k = more (tally_finite r.is _ sized (sum_more s (size_word plan (get_or ws i 0)) _ k))
 
-      pub turn_past : 2 ^ 62 < s → Passing plan p n at count (f + 1) s (i + 1)
-      turn_past k = more (tally_finite r.is _ sized (sum_past s (word_at plan p at i) _ k))
+      pub turn_past : 2 ^ 62 < s → Passing plan n ws (f + 1) s (i + 1)
+      turn_past k = more (tally_finite r.is _ sized (sum_past s (size_word plan (get_or ws i 0)) _ k))
 
-  module _ (l : count ≤ i) where
-    whole : Tally (before (size_in plan) n) (take count (drop at p)) f s
-    whole = let e : i ≡ count = omega (arith, r.le) in rw e at r.is
+  module _ (l : length ws ≤ i) where
+    whole : Tally (before (size_in plan) n) ws f s
+    whole = rw (take_all i ws l) at r.is
 
-    long : length (take count (drop at p)) ≡ count
-    long = run_long p at count r.in_p
-
-    pub end_sum : f ≡ count → s ≤ 2 ^ 62 → Weighs s ≡ coded (seconds_row n (before (size_in plan) n) (take count (drop at p)))
+    pub end_sum : f ≡ length ws → leb s (2 ^ 62) ≡ true → Ok s ≡ coded (seconds_row n (before (size_in plan) n) ws)
     unfolding weighed_of measured
-    end_sum e h = rw (le-leb s (2 ^ 62) h) at (tally_all n r.lower whole (e ∙ sym long))
+    end_sum e h = rw h at (tally_all n r.lower whole e)
 
-    pub end_past : f ≡ count → 2 ^ 62 < s → Fault TooLarge ≡ coded (seconds_row n (before (size_in plan) n) (take count (drop at p)))
+    pub end_past : f ≡ length ws → leb s (2 ^ 62) ≡ false → Err TooLarge ≡ coded (seconds_row n (before (size_in plan) n) ws)
     unfolding weighed_of measured
-    end_past e h = rw (lt-leb s (2 ^ 62) h) at (tally_all n r.lower whole (e ∙ sym long))
+    end_past e h = rw h at (tally_all n r.lower whole e)
 
-    module _ (k : f ≡ count → ⊥) where
-      not_all : f < length (take count (drop at p))
-      not_all = omega (arith, long, whole.most)
+    module _ (k : f ≡ length ws → ⊥) where
+      not_all : f < length ws
+      not_all = omega (arith, whole.most)
 
-      pub end_endless : f ≡ 0 → Weighs (2 ^ 63) ≡ coded (seconds_row n (before (size_in plan) n) (take count (drop at p)))
-      end_endless e = tally_no_finite n r.lower whole not_all e
+      pub end_endless : eqb f 0 ≡ true → Ok (2 ^ 63) ≡ coded (seconds_row n (before (size_in plan) n) ws)
+      end_endless e = tally_no_finite n r.lower whole not_all (eqb-true f 0 e)
 
-      pub end_mixed : (f ≡ 0 → ⊥) → Fault UnsuitedPart ≡ coded (seconds_row n (before (size_in plan) n) (take count (drop at p)))
-      end_mixed e = tally_mixed n r.lower whole not_all (omega arith)
+      pub end_mixed : eqb f 0 ≡ false → Err UnsuitedPart ≡ coded (seconds_row n (before (size_in plan) n) ws)
+      end_mixed e = let h : f ≡ 0 → ⊥ = eqb-false f 0 e in tally_mixed n r.lower whole not_all (omega arith)

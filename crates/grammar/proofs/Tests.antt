@@ -3,15 +3,15 @@
 --   is_endless_lem               what the test of a size says
 --   endless_word, finite_word   what a word says of its size
 -- Assumes nothing.
-use mathlib.Core.Path.{◌≡◌, refl}
-use mathlib.Core.Bool.{true, false, false≢true}
+use mathlib.Core.Path.{◌≡◌, refl, sym}
+use mathlib.Core.Bool.{Bool, true, false, ◌&&◌, and-false, false≢true}
 use Prim.Native.Nat.{ℕ, ◌+◌, ◌-◌, ◌^◌, ◌≤◌, ◌<◌}
 use native.Mathlib.Omega.{arith}
-use lib.Dec.{leb}
-use borrow.Author.Tests.{lt-ltb, le-ltb, le-leb, lt-leb, eq-eqb, ne_eqb}
-use Rattle.numbers.specs.Size.{Size, finite, endless, size_of}
-use Rattle.numbers.proofs.size.SizeWords.{sized_finite, sized_endless}
-use Rattle.grammar.specs.Checks.{is_endless}
+use lib.Dec.{leb, ltb, eqb}
+use borrow.Author.Tests.{leb-true, ltb-true, lt-ltb, le-ltb, le-leb, lt-leb, eq-eqb, ne_eqb}
+use Rattle.numbers.specs.Size.{Size, finite, endless, below, size_of}
+use Rattle.numbers.proofs.size.SizeWords.{by_size, sized_finite, sized_endless}
+use Rattle.grammar.specs.Checks.{is_endless, is_one, few, count}
 
 -- a sum and its bound, tested by a difference
 pub room : (a b l : ℕ) → b ≤ l → a ≤ l - b → leb (a + b) l ≡ true
@@ -34,3 +34,23 @@ endless_word w h = rw (sized_endless w h)
 
 pub finite_word : (w : ℕ) → w < 2 ^ 63 → is_endless (size_of w) ≡ false
 finite_word w h = rw (sized_finite w h)
+
+-- the same, as the code tests the word
+pub endless_test : (w : ℕ) → is_endless (size_of w) ≡ leb (2 ^ 63) w
+endless_test w = by_size (λ z. is_endless z ≡ leb (2 ^ 63) w) w (λ l. sym (lt-leb (2 ^ 63) w l)) (λ l. sym (le-leb (2 ^ 63) w l))
+
+pub one_test : (w : ℕ) → is_one (size_of w) ≡ eqb w 1
+one_test w = by_size (λ z. is_one z ≡ eqb w 1) w (λ l. refl) (λ l. sym (ne_eqb w 1 (λ e. absurd (omega arith))))
+
+pub below_test : (b w : ℕ) → (below b (size_of w) && ltb b (2 ^ 62)) ≡ (ltb b w && ltb b (2 ^ 62))
+below_test b w = by_size (λ z. (below b z && ltb b (2 ^ 62)) ≡ (ltb b w && ltb b (2 ^ 62))) w (λ l. refl) (λ l. by (ltb b (2 ^ 62)) refl l)
+  where
+    by : (q : Bool) → ltb b (2 ^ 62) ≡ q → 2 ^ 63 ≤ w → q ≡ (ltb b w && q)
+    by true e l = let h : b < w = omega (arith, ltb-true b (2 ^ 62) e) in rw (lt-ltb b w h)
+    by false e l = sym (and-false (ltb b w))
+
+pub few_test : (w : ℕ) → few (size_of w) ≡ leb w 256
+few_test w = by_size (λ z. few z ≡ leb w 256) w (λ l. refl) (λ l. sym (lt-leb w 256 (omega arith)))
+
+pub few_count : (w : ℕ) → leb w 256 ≡ true → count (size_of w) ≡ w
+few_count w e = by_size (λ z. count z ≡ w) w (λ l. refl) (λ l. absurd (omega (arith, leb-true w 256 e)))

@@ -2,7 +2,9 @@
 // crate `planning` goes through the nodes, and `cycles` finds cycles.
 #![tactic(auto)]
 
+pub mod entry;
+pub mod kind;
 pub mod kinds;
-pub mod loops;
 pub mod named;
+pub mod pool_words;
 pub mod refusal;

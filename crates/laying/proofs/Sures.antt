@@ -23,6 +23,7 @@ use Rattle.lists.proofs.Order.{same?}
 use Rattle.numbers.specs.declared.or.Part.{Part}
 use Rattle.numbers.specs.declared.or.Part.TheVariants.{First, Second}
 use Rattle.numbers.specs.declared.cons.Pair.{Pair}
+use Rattle.grammar.specs.declared.entry.Entry.{Entry}
 use Rattle.grammar.specs.Rule.{Item, own, part}
 use Rattle.grammar.specs.Law.{Each}
 use Rattle.grammar.specs.kinds.Or.{tagged}
@@ -53,12 +54,12 @@ few_both {xs} {ys} {u} {v} f g = rw f.shows (by f.case u f.few)
     by (c ∷ cs) (suc u) l = few_more (omega arith) (few_cell c (by cs u (le_of_suc-le-suc l)))
 
 -- ---- items of at most w cells, where their parts are bounded
-abbrev Held : List ℕ → ℕ → ℕ → List Item → Type 0
+abbrev Held : List Entry → ℕ → ℕ → List Item → Type 0
 Held plan h w [] = Unit {0}
 Held plan h w (own c ∷ is) = (v : ℕ) × (1 + v ≤ w) × Held plan h v is
 Held plan h w (part a m k ∷ is) = (u v : ℕ) × (u + v ≤ w) × Bounded plan a u h × Held plan h v is
 
-held_few : (plan p : List ℕ) (n h d : ℕ) → h ≤ d → (w up : ℕ) (is : List Item) → Held plan h w is → Each (Next plan p n) is
+held_few : (plan : List Entry) (p : List ℕ) (n h d : ℕ) → h ≤ d → (w up : ℕ) (is : List Item) → Held plan h w is → Each (Next plan p n) is
     → Few (shown (walk (rule_in plan p) d) up is) w
 unfolding shown
 held_few plan p n h d l w up [] k v = few_more (omega arith) few_none
@@ -67,11 +68,11 @@ held_few plan p n h d l w up (part a m j ∷ is) k v =
     few_more k.2 (few_both (k.3.fits p m (up + j) d v.0.visits l) (held_few plan p n h d l k.1 0 is k.4 v.1))
 
 -- a part alone
-held_one : {plan : List ℕ} {a w h : ℕ} → Bounded plan a w h → (u v : ℕ) × (u + v ≤ w) × Bounded plan a u h × Unit {0}
+held_one : {plan : List Entry} {a w h : ℕ} → Bounded plan a w h → (u v : ℕ) × (u + v ≤ w) × Bounded plan a u h × Unit {0}
 held_one {w = w} b = (w, 0, omega arith, b, tt)
 
 -- a width of node i, one higher than its parts'
-module _ {plan : List ℕ} {i : ℕ} (h : ℕ) where
+module _ {plan : List Entry} {i : ℕ} (h : ℕ) where
   width_by : {w : Option ℕ}
       → ((k : ℕ) → w ≡ Some k → (k ≤ most) × ((p : List ℕ) (n : ℕ) → Visits plan p i n → (is : List Item) × ((rule_in plan p i).items n ≡ is) × Held plan h k is))
       → Width plan i w (h + 1)
@@ -88,7 +89,7 @@ module _ {plan : List ℕ} {i : ℕ} (h : ℕ) where
         );
   }
 
-module _ {plan : List ℕ} {i h : ℕ} {w : Option ℕ} where
+module _ {plan : List Entry} {i h : ℕ} {w : Option ℕ} where
   width_higher : {h' : ℕ} → h ≤ h' → Width plan i w h → Width plan i w h'
   width_higher l b = record { bounds = λ k e. let g = b.bounds k e in (g.0, record { fits = λ p n up d v o. g.1.fits p n up d v (omega arith) }) }
 
@@ -104,17 +105,17 @@ known_is m {k} e = by (leb m most) refl e
     by false t q = let z : ◌≡◌ {A = ℕ} 0 1 = cc in absurd (omega arith)
 
 -- ---- shape by shape, whatever the kind: what every visit of the node shows; a part's width is as its list has it
-of_part : {plan : List ℕ} {widths : List (Option ℕ)} {h a x : ℕ} → Widths plan widths h → Some x ≡ width_at widths a → (x ≤ most) × Bounded plan a x h
+of_part : {plan : List Entry} {widths : List (Option ℕ)} {h a x : ℕ} → Widths plan widths h → Some x ≡ width_at widths a → (x ≤ most) × Bounded plan a x h
 of_part {a = a} {x} ws e = (ws.at a).bounds x (sym e)
 
-pub part_most : {plan : List ℕ} {widths : List (Option ℕ)} {h : ℕ} (a : ℕ) {x : ℕ} → Widths plan widths h → Some x ≡ width_at widths a → x ≤ most
+pub part_most : {plan : List Entry} {widths : List (Option ℕ)} {h : ℕ} (a : ℕ) {x : ℕ} → Widths plan widths h → Some x ≡ width_at widths a → x ≤ most
 part_most a ws e = (of_part {a = a} ws e).0
 
 -- of every visit of node i
-abbrev Shows : List ℕ → ℕ → (List Item → Type 0) → Type 0
+abbrev Shows : List Entry → ℕ → (List Item → Type 0) → Type 0
 Shows plan i P = (p : List ℕ) (n : ℕ) → Visits plan p i n → P ((rule_in plan p i).items n)
 
-module _ {plan : List ℕ} {widths : List (Option ℕ)} {h : ℕ} (ws : Widths plan widths h) {i : ℕ} where
+module _ {plan : List Entry} {widths : List (Option ℕ)} {h : ℕ} (ws : Widths plan widths h) {i : ℕ} where
   pub width_cell : Shows plan i (λ is. (c : ℕ) × (is ≡ own c ∷ [])) → Width plan i (Some 1) (h + 1)
   width_cell f = width_by h (λ k e. let q : k ≡ 1 = cc in (omega arith, λ p n v. (_, (f p n v).1, (0, omega arith, tt))))
 
@@ -142,7 +143,7 @@ module _ {plan : List ℕ} {widths : List (Option ℕ)} {h : ℕ} (ws : Widths p
         (omega (arith, g.0, g.1), λ p n v. (_, (f p n v).1, (x, y, omega (arith, g.0), (of_part ws ex).1, held_one (of_part ws ey).1))))
 
 -- ---- the list of widths
-pub widths_none : (plan : List ℕ) → Widths plan (replicate 32 None) 0
+pub widths_none : (plan : List Entry) → Widths plan (replicate 32 None) 0
 widths_none plan = record { long = refl; at = λ j. width_none (sym (blank 32 j)) }
   where
     blank : (m j : ℕ) → width_at (replicate m None) j ≡ None
@@ -150,7 +151,7 @@ widths_none plan = record { long = refl; at = λ j. width_none (sym (blank 32 j)
     blank (suc m) zero = refl
     blank (suc m) (suc j) = blank m j
 
-pub widths_more : {plan : List ℕ} {widths : List (Option ℕ)} {k : ℕ} {w : Option ℕ} → Widths plan widths k → k < 32 → Width plan k w (k + 1)
+pub widths_more : {plan : List Entry} {widths : List (Option ℕ)} {k : ℕ} {w : Option ℕ} → Widths plan widths k → k < 32 → Width plan k w (k + 1)
     → Widths plan (set widths k w) (k + 1)
 widths_more {plan} {widths} {k} {w} ws l x = record { long = length-set widths k w ∙ ws.long; at = λ j. by j (same? j k) }
   where
@@ -159,7 +160,7 @@ widths_more {plan} {widths} {k} {w} ws l x = record { long = length-set widths k
     by j (inr f) = rw (get_or-set_other widths k j w None f) (width_higher (omega arith) (ws.at j))
 
 -- a width that is known and fits the room, at a height that fits the depth
-pub sure_by : {plan : List ℕ} {widths : List (Option ℕ)} {h : ℕ} → Widths plan widths h → h ≤ depth → {i w room : ℕ} → Some w ≡ width_at widths i
+pub sure_by : {plan : List Entry} {widths : List (Option ℕ)} {h : ℕ} → Widths plan widths h → h ≤ depth → {i w room : ℕ} → Some w ≡ width_at widths i
     → w ≤ room → Sure plan i room
 sure_by {plan} {widths} {h} ws l {i} {w} {room} e r =
     record { fits = λ p n v. few_more r (((ws.at i).bounds w (sym e)).1.fits p n 0 depth v l) }

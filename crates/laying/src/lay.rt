@@ -9,7 +9,8 @@ ghost use Rattle.walk.specs.Plan.{Visits, Raised};
 ghost use Rattle.laying.specs.Parts.{VisitsTwo, tag_walk, two_walks};
 
 use super::rest::{Rest, Stop};
-use grammar::kinds;
+use grammar::entry::Entry;
+use grammar::kind::Kind;
 use grammar::kinds::{Tagged, Two, cons, dep, or, pool};
 use numbers::except;
 use walk::lent::Lent;
@@ -77,26 +78,22 @@ pub fn lay(lent: &Lent, i: usize, n: u64, up: u64, left: usize, out: &mut [u64])
         return Rest::stopped(Stop::TooDeep);
     }
     let plan = lent.plan;
-    let kind = plan[4 * i];
-    let a = plan[4 * i + 1] as usize;
-    let b = plan[4 * i + 2];
+    let Entry { kind, a, b, .. } = plan[i];
     match kind {
-        kinds::BELOW => put(n + up, out),
-        kinds::NATS => put(n + up, out),
-        kinds::POOL => put(pool::step(lent.pool, a, n), out),
-        kinds::SHIFT => lay(lent, a, n, up + b, left - 1, out),
-        kinds::OR => tagged(lent, or::step(plan, a, b as usize, n), left - 1, out),
-        kinds::CONS => both(lent, cons::step(plan, a, b as usize, n), left - 1, out),
-        kinds::DEP => both(
+        Kind::Below => put(n + up, out),
+        Kind::Nats => put(n + up, out),
+        Kind::Pool => put(pool::step(lent.pool, a, n), out),
+        Kind::Shift => lay(lent, a, n, up + b, left - 1, out),
+        Kind::Or => tagged(lent, or::step(plan, a, b as usize, n), left - 1, out),
+        Kind::Cons => both(lent, cons::step(plan, a, b as usize, n), left - 1, out),
+        Kind::Dep => both(
             lent,
             dep::step(lent.pool, plan, a, b as usize, n),
             left - 1,
             out,
         ),
-        kinds::EXCEPT => lay(lent, a, except::split(b, n), 0, left - 1, out),
-        kinds::FIX => lay(lent, a, n, 0, left - 1, out),
-        kinds::AGAIN => lay(lent, a, n, 0, left - 1, out),
-        // Not reached: a checked plan has no other kind.
-        _ => Rest::stopped(Stop::NoRoom),
+        Kind::Except => lay(lent, a, except::split(b, n), 0, left - 1, out),
+        Kind::Fix => lay(lent, a, n, 0, left - 1, out),
+        Kind::Again => lay(lent, a, n, 0, left - 1, out),
     }
 }

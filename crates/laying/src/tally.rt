@@ -8,7 +8,8 @@ ghost use Rattle.walk.specs.Plan.{Visits};
 ghost use Rattle.laying.specs.Parts.{VisitsTwo, tag_walk, two_walks};
 
 use super::rest::{Rest, Stop};
-use grammar::kinds;
+use grammar::entry::Entry;
+use grammar::kind::Kind;
 use grammar::kinds::{Tagged, Two, cons, dep, or};
 use numbers::except;
 use walk::lent::Lent;
@@ -62,26 +63,22 @@ pub fn tally(lent: &Lent, i: usize, n: u64, left: usize, room: usize) -> Rest
         return Rest::stopped(Stop::TooDeep);
     }
     let plan = lent.plan;
-    let kind = plan[4 * i];
-    let a = plan[4 * i + 1] as usize;
-    let b = plan[4 * i + 2];
+    let Entry { kind, a, b, .. } = plan[i];
     match kind {
-        kinds::BELOW => one(room),
-        kinds::NATS => one(room),
-        kinds::POOL => one(room),
-        kinds::SHIFT => tally(lent, a, n, left - 1, room),
-        kinds::OR => tagged(lent, or::step(plan, a, b as usize, n), left - 1, room),
-        kinds::CONS => both(lent, cons::step(plan, a, b as usize, n), left - 1, room),
-        kinds::DEP => both(
+        Kind::Below => one(room),
+        Kind::Nats => one(room),
+        Kind::Pool => one(room),
+        Kind::Shift => tally(lent, a, n, left - 1, room),
+        Kind::Or => tagged(lent, or::step(plan, a, b as usize, n), left - 1, room),
+        Kind::Cons => both(lent, cons::step(plan, a, b as usize, n), left - 1, room),
+        Kind::Dep => both(
             lent,
             dep::step(lent.pool, plan, a, b as usize, n),
             left - 1,
             room,
         ),
-        kinds::EXCEPT => tally(lent, a, except::split(b, n), left - 1, room),
-        kinds::FIX => tally(lent, a, n, left - 1, room),
-        kinds::AGAIN => tally(lent, a, n, left - 1, room),
-        // Not reached: a checked plan has no other kind.
-        _ => Rest::stopped(Stop::NoRoom),
+        Kind::Except => tally(lent, a, except::split(b, n), left - 1, room),
+        Kind::Fix => tally(lent, a, n, left - 1, room),
+        Kind::Again => tally(lent, a, n, left - 1, room),
     }
 }

@@ -6,22 +6,18 @@ ghost use Rattle.grammar.specs.Nodes.{node_with};
 ghost use Rattle.grammar.specs.kinds.Again.{again};
 ghost use Rattle.grammar.specs.Plan.{weighed};
 
+use super::super::kind::Kind;
 use super::super::refusal::Refusal;
-use super::{FIX, Weighed};
+use super::asks;
 use numbers::size::ENDLESS;
 
-pub fn check(table: &[u64], n: usize, a: usize) -> Weighed
+#[tactic(auto, unfolding(crate::specs::Plan::weighed, crate::specs::Plan::coded, crate::specs::Checks::row, crate::specs::kinds::Fix::pass_rule))]
+pub fn check(table: &[u64], n: usize, a: usize) -> Result<u64, Refusal>
     requires { length table.now ≡ 3 * nodes table.now }
     ensures { (p : List ℕ) (b : ℕ) (z : ℕ → Size) → result ≡ weighed again (node_with table.now p n a b) z }
 {
-    if a <= n {
-        return Weighed::Fault(Refusal::Reference);
-    }
-    if table.len() / 3 <= a {
-        return Weighed::Fault(Refusal::Reference);
-    }
-    if table[3 * a] != FIX {
-        return Weighed::Fault(Refusal::Reference);
-    }
-    Weighed::Of(ENDLESS)
+    asks(n < a, Refusal::Reference)?;
+    asks(a < table.len() / 3, Refusal::Reference)?;
+    asks(table[3 * a] == Kind::Fix as u64, Refusal::Reference)?;
+    Ok(ENDLESS)
 }

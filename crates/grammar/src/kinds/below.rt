@@ -7,27 +7,21 @@ ghost use Rattle.grammar.specs.Plan.{weighed};
 ghost use Rattle.grammar.specs.Placed.{counted};
 
 use super::super::refusal::Refusal;
-use super::{Place, Weighed};
+use super::asks;
 use numbers::size::LARGEST;
 
-pub fn check(a: u64) -> Weighed
+#[tactic(auto, unfolding(crate::specs::Plan::weighed, crate::specs::Plan::coded, crate::specs::Checks::row, crate::specs::kinds::Below::below_rule))]
+pub fn check(a: u64) -> Result<u64, Refusal>
     ensures { (t p : List ℕ) (n b : ℕ) (z : ℕ → Size) → result ≡ weighed below (node_with t p n a b) z }
 {
-    if a < 1 {
-        return Weighed::Fault(Refusal::Range);
-    }
-    if LARGEST < a {
-        return Weighed::Fault(Refusal::Range);
-    }
-    Weighed::Of(a)
+    asks(1 <= a, Refusal::Range)?;
+    asks(a <= LARGEST, Refusal::Range)?;
+    Ok(a)
 }
 
 // 15: "a number cell not below its count"
-pub fn place_of(a: u64, c: u64) -> Place
+pub fn place_of(a: u64, c: u64) -> Option<u64>
     ensures { result ≡ counted a c }
 {
-    if c < a {
-        return Place::At(c);
-    }
-    Place::Nowhere
+    (c < a).then_some(c)
 }

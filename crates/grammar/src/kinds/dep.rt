@@ -6,16 +6,17 @@ ghost use Rattle.numbers.specs.Dep.{in_turn};
 ghost use Rattle.numbers.specs.Dep;
 ghost use Rattle.grammar.specs.Kind.{before};
 ghost use Rattle.grammar.specs.Nodes.{node_with};
-ghost use Rattle.grammar.specs.Plan.{size_in, coded, weighed};
+ghost use Rattle.grammar.specs.Plan.{size_in, size_word, coded, weighed};
 ghost use Rattle.grammar.specs.Rule.{part};
 ghost use Rattle.grammar.specs.kinds.Dep.{counts, seconds_of, seconds_row, dep};
 ghost use Rattle.grammar.specs.Seconds.{firsts, DepIn};
 ghost use Rattle.grammar.specs.Shown.{seconds_sized, ShowsDep, NamesDep};
 
-use super::super::loops;
+use super::super::entry::Entry;
 use super::super::named::Named;
+use super::super::pool_words::{all_lower, run, run_within};
 use super::super::refusal::Refusal;
-use super::{Two, Weighed};
+use super::{Two, asks};
 use numbers::cons::Pair;
 use numbers::joined::BIG;
 use numbers::size::{ENDLESS, LARGEST};
@@ -23,42 +24,31 @@ use numbers::size::{ENDLESS, LARGEST};
 // "its size m finite, at most 256"
 const MOST_FIRSTS: u64 = 256;
 
-pub fn check(pool: &[u64], plan: &[u64], n: usize, a: usize, b: usize) -> Weighed
-    requires { 4 * n ≤ length plan.now }
+#[tactic(auto, using(crate::proofs::Tests::few_test, crate::proofs::Tests::few_count), unfolding(crate::specs::Plan::weighed, crate::specs::Plan::coded, crate::specs::Checks::row, crate::specs::kinds::Dep::dep_rule))]
+pub fn check(pool: &[u64], plan: &[Entry], n: usize, a: usize, b: usize) -> Result<u64, Refusal>
+    requires { n ≤ length plan.now }
     ensures { (t : List ℕ) → result ≡ weighed dep (node_with t pool.now n a b) (size_in plan.now) }
 {
-    if n <= a {
-        return Weighed::Fault(Refusal::Reference);
-    }
-    let s = plan[4 * a + 3];
-    if MOST_FIRSTS < s {
-        return Weighed::Fault(Refusal::UnsuitedPart);
-    }
-    let m = s as usize;
-    if pool.len() < m {
-        return Weighed::Fault(Refusal::Range);
-    }
-    if pool.len() - m < b {
-        return Weighed::Fault(Refusal::Range);
-    }
-    seconds(pool, plan, n, b, m)
+    asks(a < n, Refusal::Reference)?;
+    let m = plan[a].size;
+    asks(m <= MOST_FIRSTS, Refusal::UnsuitedPart)?;
+    let words = run_within(pool, b, m as usize)?;
+    seconds(plan, n, words)
 }
 
 // The rest of a dep's row, in two passes over its seconds: "each of those m words a lower node" comes before "all finite or all endless",
 // and the pass over their sizes, judged after the last one, is shorter without that test.
-fn seconds(pool: &[u64], plan: &[u64], n: usize, at: usize, count: usize) -> Weighed
-    requires { (at + count ≤ length pool.now) × (4 * n ≤ length plan.now) }
-    ensures { result ≡ coded (seconds_row n (before (size_in plan.now) n) (take count (drop at pool.now))) }
+#[tactic(auto, using(crate::proofs::Sums::not_lower, crate::proofs::Sums::turn_few, crate::proofs::Sums::end_sum, crate::proofs::Sums::end_past, crate::proofs::Sums::end_endless, crate::proofs::Sums::end_mixed))]
+fn seconds(plan: &[Entry], n: usize, words: &[u64]) -> Result<u64, Refusal>
+    requires { n ≤ length plan.now }
+    ensures { result ≡ coded (seconds_row n (before (size_in plan.now) n) words.now) }
 {
-    if !loops::all_lower(pool, n, at, count) {
-        return Weighed::Fault(Refusal::Reference);
-    }
+    asks(all_lower(words, n), Refusal::Reference)?;
     // How many are finite so far, and their sum.
     let mut finite = 0;
     let mut sum: u64 = 0;
-    for i in 0..count {
-        let k = pool[at + i] as usize;
-        let s = plan[4 * k + 3];
+    for c in words {
+        let s = plan[*c as usize].size;
         if s < ENDLESS {
             finite += 1;
             // Past 2^62 it grows no more, so it cannot overflow.
@@ -67,29 +57,24 @@ fn seconds(pool: &[u64], plan: &[u64], n: usize, at: usize, count: usize) -> Wei
             }
         }
     }
-    if finite == count {
-        if LARGEST < sum {
-            return Weighed::Fault(Refusal::TooLarge);
-        }
-        return Weighed::Of(sum);
+    if finite == words.len() {
+        asks(sum <= LARGEST, Refusal::TooLarge)?;
+        return Ok(sum);
     }
-    if finite == 0 {
-        return Weighed::Of(ENDLESS);
-    }
-    Weighed::Fault(Refusal::UnsuitedPart)
+    asks(finite == 0, Refusal::UnsuitedPart)?;
+    Ok(ENDLESS)
 }
 
 // "Seconds finite: all pairs of first 0, then of first 1, and so on."
-fn in_turn(pool: &[u64], plan: &[u64], at: usize, count: usize, n: u64) -> Pair
-    requires count_in_bounds { at + count ≤ length pool.now }
-    requires by_index { (i : ℕ) → i < count → 4 * get_or pool.now (at + i) 0 + 3 < length plan.now }
-    requires by_index_2 { (i : ℕ) → i < count → get_or plan.now (4 * get_or pool.now (at + i) 0 + 3) 0 < 2 ^ 63 }
-    ensures { result ≡ in_turn (counts (size_in plan.now) (take count (drop at pool.now))) n }
+#[tactic(auto, using(crate::proofs::SecondsInTurn::turning_none, crate::proofs::SecondsInTurn::turning_found, crate::proofs::SecondsInTurn::turning_more, crate::proofs::SecondsInTurn::turning_end))]
+fn in_turn(plan: &[Entry], words: &[u64], n: u64) -> Pair
+    requires inside { (i : ℕ) → i < length words.now → get_or words.now i 0 < length plan.now }
+    requires finite { (i : ℕ) → i < length words.now → size_word plan.now (get_or words.now i 0) < 2 ^ 63 }
+    ensures { result ≡ in_turn (counts (size_in plan.now) words.now) n }
 {
     let mut rest = n;
-    for k in 0..count {
-        let c = pool[at + k] as usize;
-        let s = plan[4 * c + 3];
+    for (k, c) in words.iter().enumerate() {
+        let s = plan[*c as usize].size;
         if rest < s {
             return Pair {
                 first: k as u64,
@@ -99,26 +84,26 @@ fn in_turn(pool: &[u64], plan: &[u64], at: usize, count: usize, n: u64) -> Pair
         rest -= s;
     }
     Pair {
-        first: count as u64,
+        first: words.len() as u64,
         second: rest,
     }
 }
 
 // The two parts' numbers, by the seconds' sizes: "Seconds endless: first n mod m, second n div m."
-fn parts(pool: &[u64], plan: &[u64], a: usize, b: usize, n: u64) -> Pair
+fn parts(pool: &[u64], plan: &[Entry], a: usize, b: usize, n: u64) -> Pair
     requires { DepIn plan.now pool.now a b }
     ensures { result ≡ Dep.split (seconds_sized plan.now pool.now a b) n }
 {
-    let m = plan[4 * a + 3];
-    let c = pool[b] as usize;
-    if plan[4 * c + 3] < ENDLESS {
-        return in_turn(pool, plan, b, m as usize, n);
+    let m = plan[a].size;
+    let head = pool[b] as usize;
+    if plan[head].size < ENDLESS {
+        return in_turn(plan, run(pool, b, m as usize), n);
     }
     numbers::dep::split_endless(m, n)
 }
 
 // A visit at n: the first part, and the second that its number chooses.
-pub fn step(pool: &[u64], plan: &[u64], a: usize, b: usize, n: u64) -> Two
+pub fn step(pool: &[u64], plan: &[Entry], a: usize, b: usize, n: u64) -> Two
     requires dep_in { DepIn plan.now pool.now a b × (length pool.now ≤ 4096) }
     requires n_bound { (Dep.split (seconds_of (size_in plan.now) (take (firsts plan.now a) (drop b pool.now))) n).first < firsts plan.now a }
     ensures { ShowsDep plan.now pool.now a b n result }
@@ -133,36 +118,35 @@ pub fn step(pool: &[u64], plan: &[u64], a: usize, b: usize, n: u64) -> Two
     }
 }
 
-// The sum of the sizes of a dep's seconds before the one at x.
-fn before(pool: &[u64], plan: &[u64], b: usize, x: usize) -> u64
-    requires x_in_bounds { b + x ≤ length pool.now }
-    requires by_index { (j : ℕ) → j < x → 4 * get_or pool.now (b + j) 0 + 3 < length plan.now }
-    requires by_index_2 { (j : ℕ) → j < x → get_or plan.now (4 * get_or pool.now (b + j) 0 + 3) 0 < 2 ^ 63 }
-    requires pool_bound { Dep.total (counts (size_in plan.now) (take x (drop b pool.now))) < 2 ^ 63 }
-    ensures { result ≡ Dep.total (counts (size_in plan.now) (take x (drop b pool.now))) }
+// The sum of the sizes of a dep's seconds, of some of them: those before the one that is read.
+#[tactic(auto, using(crate::proofs::Joins::summing_none, crate::proofs::Joins::summing_more, crate::proofs::Joins::summing_fits, crate::proofs::Joins::summing_end))]
+fn sum_of(plan: &[Entry], words: &[u64]) -> u64
+    requires inside { (i : ℕ) → i < length words.now → get_or words.now i 0 < length plan.now }
+    requires finite { (i : ℕ) → i < length words.now → size_word plan.now (get_or words.now i 0) < 2 ^ 63 }
+    requires sum_bound { Dep.total (counts (size_in plan.now) words.now) < 2 ^ 63 }
+    ensures { result ≡ Dep.total (counts (size_in plan.now) words.now) }
 {
     let mut sum = 0;
-    for j in 0..x {
-        let c = pool[b + j] as usize;
-        sum += plan[4 * c + 3];
+    for c in words {
+        sum += plan[*c as usize].size;
     }
     sum
 }
 
 // The number of a dep's case: x is the first part's number, y that of the second that it chooses.
-fn joined(pool: &[u64], plan: &[u64], a: usize, b: usize, x: u64, y: u64) -> Option<u64>
+fn joined(pool: &[u64], plan: &[Entry], a: usize, b: usize, x: u64, y: u64) -> Option<u64>
     requires { DepIn plan.now pool.now a b × (x < firsts plan.now a) }
     ensures { result ≡ capped (Dep.join (seconds_sized plan.now pool.now a b) x y) }
 {
     let head = pool[b] as usize;
-    if plan[4 * head + 3] < ENDLESS {
-        let sum = before(pool, plan, b, x as usize);
+    if plan[head].size < ENDLESS {
+        let sum = sum_of(plan, run(pool, b, x as usize));
         return numbers::dep::join_finite(sum, y);
     }
-    numbers::dep::join_endless(plan[4 * a + 3], x, y)
+    numbers::dep::join_endless(plan[a].size, x, y)
 }
 
-pub fn join(pool: &[u64], plan: &[u64], a: usize, b: usize, x: u64, y: u64) -> u64
+pub fn join(pool: &[u64], plan: &[Entry], a: usize, b: usize, x: u64, y: u64) -> u64
     requires { DepIn plan.now pool.now a b × (x < firsts plan.now a) }
     ensures { result ≡ word_of (capped (Dep.join (seconds_sized plan.now pool.now a b) x y)) }
 {
@@ -170,8 +154,8 @@ pub fn join(pool: &[u64], plan: &[u64], a: usize, b: usize, x: u64, y: u64) -> u
 }
 
 // "to a dep's first and each second"
-pub fn steps(plan: &[u64], a: usize, b: usize) -> Named
-    requires { 4 * a + 3 < length plan.now }
+pub fn steps(plan: &[Entry], a: usize, b: usize) -> Named
+    requires { a < length plan.now }
     ensures { NamesDep plan.now a b result }
 {
     Named {
@@ -180,6 +164,6 @@ pub fn steps(plan: &[u64], a: usize, b: usize) -> Named
         a,
         b: 0,
         at: b,
-        count: plan[4 * a + 3] as usize,
+        count: plan[a].size as usize,
     }
 }

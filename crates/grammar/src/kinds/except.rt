@@ -6,30 +6,24 @@ ghost use Rattle.grammar.specs.Nodes.{node_with};
 ghost use Rattle.grammar.specs.kinds.Except.{except};
 ghost use Rattle.grammar.specs.Plan.{size_in, weighed};
 
+use super::super::entry::Entry;
 use super::super::refusal::Refusal;
-use super::Weighed;
+use super::asks;
 use numbers::joined::BIG;
 use numbers::size;
 use numbers::size::LARGEST;
 
-pub fn check(plan: &[u64], n: usize, a: usize, b: u64) -> Weighed
-    requires { 4 * n ≤ length plan.now }
+#[tactic(auto, using(crate::proofs::Tests::one_test, crate::proofs::Tests::below_test), unfolding(crate::specs::Plan::weighed, crate::specs::Plan::coded, crate::specs::Checks::row, crate::specs::kinds::Except::except_rule))]
+pub fn check(plan: &[Entry], n: usize, a: usize, b: u64) -> Result<u64, Refusal>
+    requires { n ≤ length plan.now }
     ensures { (t p : List ℕ) → result ≡ weighed except (node_with t p n a b) (size_in plan.now) }
 {
-    if n <= a {
-        return Weighed::Fault(Refusal::Reference);
-    }
-    let s = plan[4 * a + 3];
-    if s == 1 {
-        return Weighed::Fault(Refusal::UnsuitedPart);
-    }
-    if s <= b {
-        return Weighed::Fault(Refusal::Range);
-    }
-    if LARGEST <= b {
-        return Weighed::Fault(Refusal::Range);
-    }
-    Weighed::Of(size::one_less(s))
+    asks(a < n, Refusal::Reference)?;
+    let s = plan[a].size;
+    asks(s != 1, Refusal::UnsuitedPart)?;
+    asks(b < s, Refusal::Range)?;
+    asks(b < LARGEST, Refusal::Range)?;
+    Ok(size::one_less(s))
 }
 
 // The number of an except's case: m is the part's, and not the removed one.

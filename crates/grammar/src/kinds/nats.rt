@@ -5,11 +5,12 @@ ghost use Rattle.grammar.specs.Nodes.{node_with};
 ghost use Rattle.grammar.specs.kinds.Nats.{nats};
 ghost use Rattle.grammar.specs.Plan.{weighed};
 
-use super::Weighed;
+use super::super::refusal::Refusal;
 use numbers::size::ENDLESS;
 
-pub fn check() -> Weighed
+#[tactic(auto, unfolding(crate::specs::Plan::weighed, crate::specs::Plan::coded, crate::specs::Checks::row, crate::specs::kinds::Nats::nats_rule))]
+pub fn check() -> Result<u64, Refusal>
     ensures { (t p : List ℕ) (n a b : ℕ) (z : ℕ → Size) → result ≡ weighed nats (node_with t p n a b) z }
 {
-    Weighed::Of(ENDLESS)
+    Ok(ENDLESS)
 }

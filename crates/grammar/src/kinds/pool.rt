@@ -6,32 +6,23 @@ ghost use Rattle.grammar.specs.kinds.Pool.{pool as pool_kind};
 ghost use Rattle.grammar.specs.Plan.{weighed};
 ghost use Rattle.grammar.specs.Placed.{placed};
 
-use super::super::loops;
+use super::super::pool_words;
+use super::super::pool_words::{all_different, run, run_within};
 use super::super::refusal::Refusal;
-use super::{Place, Weighed};
+use super::asks;
 
 // "1 <= b <= 4,096"
 const MOST_WORDS: usize = 4096;
 
-pub fn check(pool: &[u64], a: usize, b: usize) -> Weighed
+#[tactic(auto, unfolding(crate::specs::Plan::weighed, crate::specs::Plan::coded, crate::specs::Checks::row, crate::specs::kinds::Pool::pool_rule))]
+pub fn check(pool: &[u64], a: usize, b: usize) -> Result<u64, Refusal>
     ensures { (t : List ℕ) (n : ℕ) (z : ℕ → Size) → result ≡ weighed pool_kind (node_with t pool.now n a b) z }
 {
-    if b < 1 {
-        return Weighed::Fault(Refusal::Range);
-    }
-    if MOST_WORDS < b {
-        return Weighed::Fault(Refusal::Range);
-    }
-    if pool.len() < b {
-        return Weighed::Fault(Refusal::Range);
-    }
-    if pool.len() - b < a {
-        return Weighed::Fault(Refusal::Range);
-    }
-    if loops::all_different(pool, a, b) {
-        return Weighed::Of(b as u64);
-    }
-    Weighed::Fault(Refusal::Repeat)
+    asks(1 <= b, Refusal::Range)?;
+    asks(b <= MOST_WORDS, Refusal::Range)?;
+    let words = run_within(pool, a, b)?;
+    asks(all_different(words), Refusal::Repeat)?;
+    Ok(b as u64)
 }
 
 // A visit at n: "the word at place+n"
@@ -43,14 +34,9 @@ pub fn step(pool: &[u64], a: usize, n: u64) -> u64
 }
 
 // Where c is among `count` words of the pool, from `at` on.
-pub fn place_of(pool: &[u64], at: usize, count: usize, c: u64) -> Place
+pub fn place_of(pool: &[u64], at: usize, count: usize, c: u64) -> Option<u64>
     requires { at + count ≤ length pool.now }
     ensures { result ≡ placed c (take count (drop at pool.now)) }
 {
-    for k in 0..count {
-        if pool[at + k] == c {
-            return Place::At(k as u64);
-        }
-    }
-    Place::Nowhere
+    pool_words::place_of(run(pool, at, count), c).map(|k| k as u64)
 }

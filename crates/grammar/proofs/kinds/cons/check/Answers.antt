@@ -1,25 +1,12 @@
 -- `grammar::kinds::cons::check` is the row of cons.
 -- Assumes nothing.
 use Rattle.numbers.specs.Size.{times}
-use Rattle.grammar.proofs.Tests.{tests}
-use Rattle.grammar.specs.Checks.{row}
 use Rattle.grammar.specs.kinds.Cons.{cons_rule}
-use Rattle.grammar.specs.Plan.{size_in, coded, weighed}
+use Rattle.grammar.specs.Plan.{size_in, weighed}
 use Rattle.grammar.proofs.Sums.{pair_row}
 use Rattle.grammar.proofs.kinds.cons.check.Goals as goal
-
-pub returns-then-n-a : goal.returns-then-n-a
-unfolding weighed cons_rule
-returns-then-n-a c =
-    unfold row coded in search tests
-
-pub returns-then-n-b : goal.returns-then-n-b
-unfolding weighed cons_rule
-returns-then-n-b c =
-    unfold row coded in search tests
 
 pub returns : goal.returns
 unfolding weighed cons_rule
 returns c =
-    λ t p. pair_row times (size_in c.args.plan.now) _ _ _ c.if-n-a.false c.if-n-b.false
-    c.product-m.ensures c.of_measured.ensures
+    λ t p. pair_row times (size_in c.args.plan.now) _ _ _ c.in_ok-asks.ensures c.in_ok-asks-2.ensures c.product-m.ensures c.of_measured.ensures
