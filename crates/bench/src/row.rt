@@ -2,7 +2,8 @@
 use super::job::Job;
 use super::single::refused;
 use bench_tables::draw::{drawn_below, mixed, word_at};
-use rows::{Next, Row};
+use grammar::refusal::Refused;
+use rows::Next;
 
 // Numbers below this have short cases.
 const SHORT: u64 = 100;
@@ -19,8 +20,8 @@ pub fn drawn(numbers: &mut [u64], items: usize) -> &mut [u64] {
 // The cells used, 0 where the row is refused.
 fn written(job: &Job, numbers: &[u64], cells: &mut [u64]) -> usize {
     match rows::write_row(job.table, job.pool, job.start, numbers, cells) {
-        Row::Done(_, used) => used,
-        Row::Refused(_, _, _) => 0,
+        Ok(row) => row.cells,
+        Err(_) => 0,
     }
 }
 
@@ -34,8 +35,8 @@ pub fn write_often(job: &mut Job, numbers: &[u64], cells: &mut [u64]) -> u64 {
 
 fn taken(job: &Job, row: &[u64], numbers: &mut [u64]) -> u64 {
     match rows::read_row(job.table, job.pool, job.start, row, numbers) {
-        Row::Done(items, _) => items as u64,
-        Row::Refused(refusal, node, item) => mixed(refused(refusal, node), item as u64),
+        Ok(row) => row.items as u64,
+        Err(e) => mixed(refused(e.refusal, e.node), e.item as u64),
     }
 }
 
@@ -49,11 +50,11 @@ pub fn read_often(job: &mut Job, numbers: &mut [u64], cells: &mut [u64]) -> u64 
     })
 }
 
-fn answer_of(answer: Next) -> u64 {
+fn answer_of(answer: Result<Option<Next>, Refused>) -> u64 {
     match answer {
-        Next::Item(number, count) => mixed(number, count as u64),
-        Next::End => 0,
-        Next::Refused(refusal, node) => refused(refusal, node),
+        Ok(Some(next)) => mixed(next.number, next.cells as u64),
+        Ok(None) => 0,
+        Err(e) => refused(e.refusal, e.node),
     }
 }
 

@@ -1,8 +1,7 @@
 // Workloads on one case at a time.
 use super::job::Job;
 use bench_tables::draw::{drawn_below, mixed, word_at};
-use cases::{Found, Written};
-use grammar::refusal::{Refusal, Verdict, number_of};
+use grammar::refusal::{Refusal, number_of};
 
 // How often each written case is read, so that the writing is drowned.
 const READINGS: usize = 16;
@@ -13,8 +12,8 @@ pub fn refused(refusal: Refusal, node: u64) -> u64 {
 
 fn checked(job: &Job) -> u64 {
     match cases::check(job.table, job.pool) {
-        Verdict::Accepted => 0,
-        Verdict::Refused(refusal, node) => refused(refusal, node),
+        Ok(()) => 0,
+        Err(e) => refused(e.refusal, e.node),
     }
 }
 
@@ -26,10 +25,7 @@ pub fn check_often(job: &mut Job) -> u64 {
 // The count of cells of a drawn number, 0 where the number is refused.
 fn written(job: &Job, k: usize, cells: &mut [u64]) -> usize {
     let number = drawn_below(k as u64, job.limit);
-    match cases::write(job.table, job.pool, job.start, number, cells) {
-        Written::Done(count) => count,
-        Written::Refused(_, _) => 0,
-    }
+    cases::write(job.table, job.pool, job.start, number, cells).unwrap_or(0)
 }
 
 pub fn write_often(job: &mut Job, cells: &mut [u64]) -> u64 {
@@ -42,8 +38,8 @@ pub fn write_often(job: &mut Job, cells: &mut [u64]) -> u64 {
 
 fn found(job: &Job, cells: &[u64]) -> u64 {
     match cases::read(job.table, job.pool, job.start, cells) {
-        Found::Number(number) => number,
-        Found::Refused(refusal, node) => refused(refusal, node),
+        Ok(number) => number,
+        Err(e) => refused(e.refusal, e.node),
     }
 }
 

@@ -9,7 +9,7 @@ use lib.Dec.{eqb}
 use borrow.Author.Tests.{not-true, not-false}
 use Rattle.std.specs.Cmp.Lexicographic.{pointwise}
 use Rattle.grammar.specs.Verdict.{verdict}
-use Rattle.grammar.specs.declared.refusal.Verdict.{Verdict}
+use Rattle.grammar.specs.Refusals.{Verdict}
 use Rattle.texts.specs.Ascii.{bytes}
 use Rattle.texts.specs.Said.{unreadable_text}
 use Rattle.asking.specs.Same.{same}

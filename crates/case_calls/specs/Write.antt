@@ -5,12 +5,10 @@
 --   write_leaves   what a lent buffer holds then
 --   write_call     of the rest of its line
 -- Assumes nothing.
-use Rattle.std.specs.Prelude.{◌≡◌, List, [], ◌∷◌, ◌++◌, ℕ, length, drop}
+use Rattle.std.specs.Prelude.{◌≡◌, List, [], ◌∷◌, ◌++◌, ℕ, length, drop, Ok, Err}
 use Rattle.grammar.specs.Sizes.{rules_of}
 use Rattle.walk.specs.Walk.{walk, cells, depth}
-use Rattle.cases.specs.Write.{writes, leaves}
-use Rattle.cases.specs.declared.writing.Written.{Written}
-use Rattle.cases.specs.declared.writing.Written.TheVariants.{Done, Refused}
+use Rattle.cases.specs.Write.{Written, writes, leaves}
 use Rattle.texts.specs.Ascii.{bytes}
 use Rattle.texts.specs.declared.page.Page.{Page}
 use Rattle.texts.specs.Page.{Puts}
@@ -20,8 +18,8 @@ use Rattle.asking.specs.Buffer.{start_words}
 use Rattle.asking.specs.Texts.{cells_text}
 
 unfoldable pub write_text : List ℕ → Written → List ℕ
-write_text cs (Done count) = cells_text count cs ++ bytes "\n"
-write_text cs (Refused r k) = refused_line r k
+write_text cs (Ok count) = cells_text count cs ++ bytes "\n"
+write_text cs (Err e) = refused_line e.refusal e.node
 
 unfoldable pub case_text : List ℕ → List ℕ → ℕ → ℕ → ℕ → List ℕ
 case_text t p i room n = write_text (cells (walk (rules_of t p) depth 0 i n)) (writes t p i n room)

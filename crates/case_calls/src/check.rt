@@ -3,7 +3,6 @@ ghost use Rattle.texts.specs.Page.{Puts};
 ghost use Rattle.case_calls.specs.Check.{check_call};
 
 use asking::calls::About;
-use grammar::refusal::Verdict;
 use texts::page::Page;
 
 // Nothing but LF stands behind its word.
@@ -14,7 +13,7 @@ pub fn answer(about: &About<'_>, rest: &[u8], page: &mut Page)
         return page.unreadable();
     }
     match cases::check(about.table, about.pool) {
-        Verdict::Accepted => page.put_text(b"accepted\n"),
-        Verdict::Refused(refusal, node) => page.refused_line(refusal, node),
+        Ok(()) => page.put_text(b"accepted\n"),
+        Err(e) => page.refused_line(e.refusal, e.node),
     }
 }

@@ -3,7 +3,6 @@ ghost use Rattle.case_calls.specs.Read.{read_text};
 
 use asking::answers::number_line;
 use asking::calls::{About, OnCells};
-use cases::Found;
 use texts::page::Page;
 
 #[derive(Clone, Copy)]
@@ -16,8 +15,8 @@ impl OnCells for Read<'_> {
 
     fn call(&self, start: usize, cells: &[u64], page: &mut Page) {
         match cases::read(self.about.table, self.about.pool, start, cells) {
-            Found::Number(found) => number_line(found, page),
-            Found::Refused(refusal, node) => page.refused_line(refusal, node),
+            Ok(found) => number_line(found, page),
+            Err(e) => page.refused_line(e.refusal, e.node),
         }
     }
 }

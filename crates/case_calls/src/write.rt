@@ -4,7 +4,6 @@ ghost use Rattle.case_calls.specs.Write.{PrintsCase, alone, case_text, write_lea
 use asking::answers::{end_line, listed_line};
 use asking::buffer::fill;
 use asking::calls::{About, OnRow};
-use cases::Written;
 use texts::page::Page;
 
 #[derive(Clone, Copy)]
@@ -31,9 +30,9 @@ fn write_case(about: &About<'_>, start: usize, number: u64, cells: &mut [u64], p
 {
     fill(cells);
     match cases::write(about.table, about.pool, start, number, cells) {
-        Written::Done(count) => listed_line(count, cells, count, page),
-        Written::Refused(refusal, node) => {
-            page.refused(refusal, node);
+        Ok(count) => listed_line(count, cells, count, page),
+        Err(e) => {
+            page.refused(e.refusal, e.node);
             end_line(cells, 0, page);
         }
     }

@@ -6,6 +6,7 @@
 --   Settled     nodes that are settled, rising; settled-..   its turns
 --   all_safe_lem    where no node is left, none is on a cycle
 -- Assumes nothing.
+use Rattle.grammar.specs.declared.entry.Entry.{Entry}
 use mathlib.Core.Path.{◌≡◌, sym, ◌∙◌}
 use mathlib.Core.Bool.{Bool, true, false, and-true}
 use mathlib.Core.Logic.{⊎_elim}
@@ -54,7 +55,7 @@ unfolding every
 none_asked marks n e = rw e
 
 -- ---- a pass
-module _ {t p plan : List ℕ} where
+module _ {t p : List ℕ} {plan : List Entry} where
   -- before the first pass
   pub pass_start : {b : List ℕ} {n : ℕ} → ((k : ℕ) → get_or b k 0 ≡ 0) → SafePass t p plan b n n
   pass_start blank = record { marked = record { safe = λ k f. absurd (f (blank k)) }; all = λ e k l. absurd (omega arith) }
@@ -100,12 +101,12 @@ module _ {t p plan : List ℕ} where
   all_safe_lem r s l n q = (s.all (omega arith) n (cycle_in false r.checked n q)).never n q q
 
 -- ---- nodes that are settled, rising
-pub record Settled (t p plan marks : List ℕ) (n : ℕ) : Type 0 where
+pub record Settled (t p : List ℕ) (plan : List Entry) (marks : List ℕ) (n : ℕ) : Type 0 where
   pub le : n ≤ nodes t
   pub marked : SafeMarks t p plan marks
   pub all : (k : ℕ) → k < n → Safe t p plan k
 
-module _ {t p plan : List ℕ} where
+module _ {t p : List ℕ} {plan : List Entry} where
   pub settled_none : {marks : List ℕ} → SafeMarks t p plan marks → Settled t p plan marks 0
   settled_none s = record { le = omega arith; marked = s; all = λ k l. absurd (omega arith) }
 

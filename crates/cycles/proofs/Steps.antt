@@ -4,6 +4,7 @@
 --   one_in, two_in, run_in   the nodes named are in the table; one_few, two_few, run_few   and below 256
 --   marks_named, asks_first, asks_second, asks_others   marks and tests of the nodes named, one after the other
 -- Assumes nothing.
+use Rattle.grammar.specs.declared.entry.Entry.{Entry}
 use mathlib.Core.Path.{◌≡◌, refl, sym, subst, ap, ◌∙◌}
 use mathlib.Core.Bool.{Bool, true, false, ◌&&◌}
 use mathlib.Core.Logic.{⊎_elim}
@@ -95,7 +96,7 @@ second r = pick r.second (r.b ∷ []) []
 abbrev pub others : List ℕ → Named → List ℕ
 others p r = take r.count (drop r.at p)
 
-module _ {t p plan : List ℕ} (ready : Ready t p plan) (n : ℕ) (guarded : Bool) {r : Named} (names : Names p (steps_of guarded t p (size_in plan) n) r) where
+module _ {t p : List ℕ} {plan : List Entry} (ready : Ready t p plan) (n : ℕ) (guarded : Bool) {r : Named} (names : Names p (steps_of guarded t p (size_in plan) n) r) where
   all_in : Under (nodes t) (first r ++ (second r ++ others p r))
   unfolding named
   all_in = all_under (nodes t) _ (λ m i. step_to ready.checked n m guarded (subst (Memᴰ m) names.is i))

@@ -5,6 +5,7 @@
 --   lowest_again         the lowest node of a cycle is an again; lowest_except
 --   cycles_..            the verdict on cycles, by what was found
 -- Assumes nothing.
+use Rattle.grammar.specs.declared.entry.Entry.{Entry}
 use mathlib.Core.Path.{◌≡◌, sym, ◌∙◌}
 use mathlib.Core.Bool.{Bool, true, false, not, ◌&&◌, false≢true}
 use mathlib.Core.List.{List}
@@ -34,7 +35,7 @@ use Rattle.grammar.specs.Steps.{steps_of, Step, Leads, Unguarded, ExceptOnCycle}
 use Rattle.grammar.specs.Plan.{size_in, Ready}
 use Rattle.grammar.specs.Verdict.{leads, unguarded, except_on_cycle, cycles}
 use Rattle.grammar.specs.declared.refusal.Refusal.TheVariants.{Unguarded as Rule9, ExceptOnCycle as Rule10}
-use Rattle.grammar.specs.declared.refusal.Verdict.TheVariants.{Accepted, Refused}
+use Rattle.grammar.specs.Refusals.{accepted, refused}
 use Rattle.numbers.proofs.Tests.{and_left, and_right}
 use Rattle.numbers.specs.Size.{Size}
 use Rattle.cycles.specs.Asked.{asked, OnCycle}
@@ -45,10 +46,10 @@ pub graph : (guarded : Bool) {t p : List ℕ} {z : ℕ → Size} → Checked t p
 graph guarded c = record { few = c.few; to_next = λ n m s. s; of_next = λ n m i. i; inside = λ n m s. step_to c n m guarded s }
 
 -- ---- the search
-pub record Sought (guarded : Bool) (t p plan : List ℕ) (from top : ℕ) (seen done : List ℕ) : Type 0 where
+pub record Sought (guarded : Bool) (t p : List ℕ) (plan : List Entry) (from top : ℕ) (seen done : List ℕ) : Type 0 where
   pub is : Searching (Step guarded t p (size_in plan)) (nodes t) from top seen done
 
-module _ {guarded : Bool} {t p plan : List ℕ} (r : Ready t p plan) where
+module _ {guarded : Bool} {t p : List ℕ} {plan : List Entry} (r : Ready t p plan) where
   pub sought_start : {from : ℕ} {seen b : List ℕ} → seen ≡ marked b (steps_of guarded t p (size_in plan) from) → length b ≡ 256 → ((k : ℕ) → get_or b k 0 ≡ 0)
       → Sought guarded t p plan from (nodes t) seen b
   sought_start {from} {seen} {b} e long blank = record { is = rw e (search_start (graph guarded r.checked) from b long blank) }
@@ -98,18 +99,18 @@ pub cycle_in : (guarded : Bool) {t p : List ℕ} {z : ℕ → Size} → Checked 
 cycle_in guarded {t} c n q = carry_from (λ (k : ℕ). k < nodes t) (λ a b _ e. step_to c a b guarded e) (λ m e. step_to c n m guarded e) q
 
 -- ---- the lowest node that is asked and on a cycle
-pub record Passed (guarded : Bool) (t p plan : List ℕ) (n : ℕ) : Type 0 where
+pub record Passed (guarded : Bool) (t p : List ℕ) (plan : List Entry) (n : ℕ) : Type 0 where
   pub le : n ≤ nodes t
   pub none : (k : ℕ) → k < n → OnCycle guarded t p (size_in plan) k → ⊥
 
-pub passed_none : {guarded : Bool} {t p plan : List ℕ} → Passed guarded t p plan 0
+pub passed_none : {guarded : Bool} {t p : List ℕ} {plan : List Entry} → Passed guarded t p plan 0
 passed_none = record { le = zero-le; none = below_none _ }
 
 -- what the code asks of a node's kind
 abbrev AskedBy : Bool → ℕ → Bool → Type 0
 AskedBy guarded kind b = (x y : ℕ) (p : List ℕ) (z : ℕ → Size) → b ≡ pick guarded ((kind_in kind).rule x y p z).skips (eqb kind 9)
 
-module _ (guarded : Bool) {t p plan : List ℕ} (r : Ready t p plan) (n : ℕ) {b : Bool} (e : AskedBy guarded (kind_of t n) b) where
+module _ (guarded : Bool) {t p : List ℕ} {plan : List Entry} (r : Ready t p plan) (n : ℕ) {b : Bool} (e : AskedBy guarded (kind_of t n) b) where
   is_asked : b ≡ asked guarded t p (size_in plan) n
   unfolding rule_at
   is_asked = e (a_of t n) (b_of t n) p (before (size_in plan) n)
@@ -130,7 +131,7 @@ module _ (guarded : Bool) {t p plan : List ℕ} (r : Ready t p plan) (n : ℕ) {
     none = λ e k w. absurd (omega (arith, r.checked.few));
   }
 
-module _ {guarded : Bool} {t p plan : List ℕ} (r : Ready t p plan) {n : ℕ} where
+module _ {guarded : Bool} {t p : List ℕ} {plan : List Entry} (r : Ready t p plan) {n : ℕ} where
   pub lowest_none : Passed guarded t p plan n → nodes t ≤ n → Lowest (OnCycle guarded t p (size_in plan)) 256
   lowest_none s l = record {
     within = le_refl 256;
@@ -140,7 +141,7 @@ module _ {guarded : Bool} {t p plan : List ℕ} (r : Ready t p plan) {n : ℕ} w
   }
 
 -- ---- the lowest node of a cycle is an again
-module _ (guarded : Bool) {t p plan : List ℕ} (r : Ready t p plan) where
+module _ (guarded : Bool) {t p : List ℕ} {plan : List Entry} (r : Ready t p plan) where
   low : {k : ℕ} → Leads guarded t p (size_in plan) k k → (j : ℕ) × (j ≤ k) × (kind_of t j ≡ 9) × Leads guarded t p (size_in plan) j j
   low q = lowest_on (λ (j : ℕ). kind_of t j ≡ 9) (λ j. same? (kind_of t j) 9) (λ n m f e. step_down r.checked n m guarded f e) q
 
@@ -148,7 +149,7 @@ module _ (guarded : Bool) {t p plan : List ℕ} (r : Ready t p plan) where
   pub no_cycle : ((n : ℕ) → n < nodes t → kind_of t n ≡ 9 → ⊥) → (k : ℕ) → Leads guarded t p (size_in plan) k k → ⊥
   no_cycle f k q = let (j, le, e, o) = low q in f j (cycle_in guarded r.checked j o) e
 
-module _ {t p plan : List ℕ} (r : Ready t p plan) where
+module _ {t p : List ℕ} {plan : List Entry} (r : Ready t p plan) where
   pub lowest_again : {m : ℕ} → Lowest (OnCycle false t p (size_in plan)) m → Lowest (Unguarded t p (size_in plan)) m
   lowest_again {m} l = record {
     within = l.within;
@@ -189,21 +190,21 @@ module _ {t p : List ℕ} {z : ℕ → Size} (c : Checked t p z) where
   except_is = lowest_of (λ n. (rule_at t p z n).skips && leads true t p z n n) (nodes t) c.few except? (λ k w. cycle_in true c k w.cycle)
 
   pub cycles_by : {u e : ℕ} → Lowest (Unguarded t p z) u → Lowest (ExceptOnCycle t p z) e
-      → pick (ltb u 256) (Refused Rule9 u) (pick (ltb e 256) (Refused Rule10 e) Accepted) ≡ cycles t p z
+      → pick (ltb u 256) (refused Rule9 u) (pick (ltb e 256) (refused Rule10 e) accepted) ≡ cycles t p z
   unfolding cycles
   cycles_by f h = rw (lowest_one unguarded_is f, lowest_one except_is h)
 
-module _ {t p plan : List ℕ} (r : Ready t p plan) where
-  pub cycles_9 : {u : ℕ} → Lowest (Unguarded t p (size_in plan)) u → u < 256 → Refused Rule9 u ≡ cycles t p (size_in plan)
+module _ {t p : List ℕ} {plan : List Entry} (r : Ready t p plan) where
+  pub cycles_9 : {u : ℕ} → Lowest (Unguarded t p (size_in plan)) u → u < 256 → refused Rule9 u ≡ cycles t p (size_in plan)
   cycles_9 {u} f l = rw (lt-ltb u 256 l) at (cycles_by r.checked f (except_is r.checked))
 
   module _ {u : ℕ} (f : Lowest (Unguarded t p (size_in plan)) u) (none : 256 ≤ u) {e : ℕ} (h : Lowest (ExceptOnCycle t p (size_in plan)) e) where
-    pub cycles_10 : e < 256 → Refused Rule10 e ≡ cycles t p (size_in plan)
+    pub cycles_10 : e < 256 → refused Rule10 e ≡ cycles t p (size_in plan)
     cycles_10 l = rw (le-ltb u 256 none, lt-ltb e 256 l) at (cycles_by r.checked f h)
 
-    pub cycles_none : 256 ≤ e → Accepted ≡ cycles t p (size_in plan)
+    pub cycles_none : 256 ≤ e → accepted ≡ cycles t p (size_in plan)
     cycles_none l = rw (le-ltb u 256 none, le-ltb e 256 l) at (cycles_by r.checked f h)
 
-  pub cycles_no_again : {b : Bool} → (b ≡ false → (n : ℕ) → n < nodes t → get_or t (3 * n) 0 ≡ 9 → ⊥) → b ≡ false → Accepted ≡ cycles t p (size_in plan)
+  pub cycles_no_again : {b : Bool} → (b ≡ false → (n : ℕ) → n < nodes t → get_or t (3 * n) 0 ≡ 9 → ⊥) → b ≡ false → accepted ≡ cycles t p (size_in plan)
   cycles_no_again f e =
       cycles_none (nowhere (no_cycle false r (f e))) (le_refl 256) (nowhere (λ k w. no_cycle true r (f e) k w.cycle)) (le_refl 256)

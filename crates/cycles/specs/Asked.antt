@@ -3,6 +3,7 @@
 --   OnCycle    such a node, and a cycle from it
 --   Marks      a step of the search
 -- Assumes nothing.
+use Rattle.grammar.specs.declared.entry.Entry.{Entry}
 use Rattle.std.specs.Prelude.{◌≡◌, Bool, true, List, ℕ, eqb}
 use Rattle.numbers.specs.Pick.{pick}
 use Rattle.numbers.specs.Size.{Size}
@@ -20,5 +21,5 @@ pub record OnCycle (guarded : Bool) (t p : List ℕ) (z : ℕ → Size) (n : ℕ
   pub cycle : Leads guarded t p z n n
 
 -- the nodes that node n names are marked too
-abbrev pub Marks : Bool → List ℕ → List ℕ → List ℕ → ℕ → List ℕ → List ℕ → Type 0
+abbrev pub Marks : Bool → List ℕ → List ℕ → List Entry → ℕ → List ℕ → List ℕ → Type 0
 Marks guarded t p plan n old last = last ≡ marked old (steps_in guarded t p plan n)

@@ -12,8 +12,9 @@ ghost use Rattle.grammar.specs.Steps.{Unguarded, ExceptOnCycle};
 ghost use Rattle.grammar.specs.Plan.{size_in, Ready};
 ghost use Rattle.grammar.specs.Verdict.{cycles};
 
-use grammar::kinds::AGAIN;
-use grammar::refusal::{Refusal, Verdict};
+use grammar::entry::Entry;
+use grammar::kind::Kind;
+use grammar::refusal::{Refusal, Refused};
 use safety::all_safe;
 use search::{NONE, lowest_asked};
 
@@ -23,7 +24,7 @@ fn has_again(table: &[u64]) -> bool
 {
     let count = table.len() / 3;
     for n in 0..count {
-        if table[3 * n] == AGAIN {
+        if table[3 * n] == Kind::Again as u64 {
             return true;
         }
     }
@@ -32,7 +33,7 @@ fn has_again(table: &[u64]) -> bool
 
 // Refusal 9: the lowest node on a cycle that never steps to the second part of an or. It is searched
 // for only where the passes leave a node, since a search from each again is slow.
-fn unguarded(table: &[u64], pool: &[u64], plan: &[u64]) -> u64
+fn unguarded(table: &[u64], pool: &[u64], plan: &[Entry]) -> u64
     requires { Ready table.now pool.now plan.now }
     ensures { Lowest (Unguarded table.now pool.now (size_in plan.now)) result }
 {
@@ -43,7 +44,7 @@ fn unguarded(table: &[u64], pool: &[u64], plan: &[u64]) -> u64
 }
 
 // Refusal 10: the lowest except on any cycle.
-fn except_on_cycle(table: &[u64], pool: &[u64], plan: &[u64]) -> u64
+fn except_on_cycle(table: &[u64], pool: &[u64], plan: &[Entry]) -> u64
     requires { Ready table.now pool.now plan.now }
     ensures { Lowest (ExceptOnCycle table.now pool.now (size_in plan.now)) result }
 {
@@ -51,20 +52,26 @@ fn except_on_cycle(table: &[u64], pool: &[u64], plan: &[u64]) -> u64
 }
 
 // "then cycles": any 9 comes before any 10. A table with no again is not searched.
-pub fn judge(table: &[u64], pool: &[u64], plan: &[u64]) -> Verdict
+pub fn judge(table: &[u64], pool: &[u64], plan: &[Entry]) -> Result<(), Refused>
     requires { Ready table.now pool.now plan.now }
     ensures { result ≡ cycles table.now pool.now (size_in plan.now) }
 {
     if has_again(table) {
         let u = unguarded(table, pool, plan);
         if u < NONE {
-            return Verdict::Refused(Refusal::Unguarded, u);
+            return Err(Refused {
+                refusal: Refusal::Unguarded,
+                node: u,
+            });
         }
         let e = except_on_cycle(table, pool, plan);
         if e < NONE {
-            return Verdict::Refused(Refusal::ExceptOnCycle, e);
+            return Err(Refused {
+                refusal: Refusal::ExceptOnCycle,
+                node: e,
+            });
         }
-        return Verdict::Accepted;
+        return Ok(());
     }
-    Verdict::Accepted
+    Ok(())
 }

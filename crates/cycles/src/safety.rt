@@ -8,6 +8,7 @@ ghost use Rattle.grammar.specs.Plan.{size_in, Ready};
 ghost use Rattle.cycles.specs.Safe.{is_marked, SafeMarks, SafePass};
 ghost use Rattle.grammar.specs.Shown.{steps_in};
 
+use grammar::entry::Entry;
 use grammar::kinds::steps_of;
 
 // More than a table has nodes: no path that opens each of them once is as long.
@@ -41,7 +42,7 @@ fn run_safe(pool: &[u64], at: usize, count: usize, safe: &[u8; 256]) -> bool
 
 // Whether the nodes that node n steps to are all marked safe. A step that guards a cycle is not asked: 9
 // never takes one.
-fn steps_safe(table: &[u64], pool: &[u64], plan: &[u64], n: usize, safe: &[u8; 256]) -> bool
+fn steps_safe(table: &[u64], pool: &[u64], plan: &[Entry], n: usize, safe: &[u8; 256]) -> bool
     requires ready { Ready table.now pool.now plan.now }
     requires n_bound { n < nodes table.now }
     ensures { result ≡ every (is_marked safe.now) (steps_in false table.now pool.now plan.now n) }
@@ -57,7 +58,7 @@ fn steps_safe(table: &[u64], pool: &[u64], plan: &[u64], n: usize, safe: &[u8; 2
 
 // One pass over the nodes, rising: marks those whose steps lead to safe nodes alone, and says how
 // many stay unmarked.
-fn safe_pass(table: &[u64], pool: &[u64], plan: &[u64], safe: &mut [u8; 256]) -> usize
+fn safe_pass(table: &[u64], pool: &[u64], plan: &[Entry], safe: &mut [u8; 256]) -> usize
     requires ready { Ready table.now pool.now plan.now }
     requires safe_marks { SafeMarks table.now pool.now plan.now safe.old }
     ensures { SafePass table.now pool.now plan.now safe.new (nodes table.now) result }
@@ -81,7 +82,7 @@ fn safe_pass(table: &[u64], pool: &[u64], plan: &[u64], safe: &mut [u8; 256]) ->
 fn settle(
     table: &[u64],
     pool: &[u64],
-    plan: &[u64],
+    plan: &[Entry],
     n: usize,
     left: usize,
     open: &mut [u8; 256],
@@ -123,7 +124,7 @@ fn settle(
 
 // Whether every node can be marked: each is settled, those it steps to before it, so that a table with no
 // refusal 9 is gone through once.
-fn all_settled(table: &[u64], pool: &[u64], plan: &[u64], safe: &mut [u8; 256]) -> bool
+fn all_settled(table: &[u64], pool: &[u64], plan: &[Entry], safe: &mut [u8; 256]) -> bool
     requires ready { Ready table.now pool.now plan.now }
     requires safe_marks { SafeMarks table.now pool.now plan.now safe.old }
     ensures { result ≡ true → (n : ℕ) → Unguarded table.now pool.now (size_in plan.now) n → ⊥ }
@@ -146,7 +147,7 @@ fn all_settled(table: &[u64], pool: &[u64], plan: &[u64], safe: &mut [u8; 256]) 
 
 // Whether marks show that no node is on "a cycle that never steps to the second part of an or". Passes
 // over the nodes go on while each leaves at most half of those before it; then what is left is settled.
-pub fn all_safe(table: &[u64], pool: &[u64], plan: &[u64]) -> bool
+pub fn all_safe(table: &[u64], pool: &[u64], plan: &[Entry]) -> bool
     requires { Ready table.now pool.now plan.now }
     ensures { result ≡ true → (n : ℕ) → Unguarded table.now pool.now (size_in plan.now) n → ⊥ }
 {

@@ -11,7 +11,9 @@ ghost use Rattle.grammar.specs.Steps.{Leads};
 ghost use Rattle.grammar.specs.Plan.{size_in, Ready};
 ghost use Rattle.cycles.specs.Asked.{OnCycle, Marks};
 
-use grammar::kinds::{AGAIN, skips, steps_of};
+use grammar::entry::Entry;
+use grammar::kind::Kind;
+use grammar::kinds::{skips, steps_of};
 
 // Above every node's number: no such node.
 pub const NONE: u64 = 256;
@@ -42,7 +44,7 @@ fn mark_run(pool: &[u64], at: usize, count: usize, seen: &mut [u8; 256])
 fn mark_steps(
     table: &[u64],
     pool: &[u64],
-    plan: &[u64],
+    plan: &[Entry],
     n: usize,
     guarded: bool,
     seen: &mut [u8; 256],
@@ -59,7 +61,7 @@ fn mark_steps(
 
 // Whether node n leads back to itself. Each node is opened once: the nodes from `top` on that are
 // marked have been.
-fn comes_back(table: &[u64], pool: &[u64], plan: &[u64], n: usize, guarded: bool) -> bool
+fn comes_back(table: &[u64], pool: &[u64], plan: &[Entry], n: usize, guarded: bool) -> bool
     requires ready { Ready table.now pool.now plan.now }
     requires n_bound { n < nodes table.now }
     ensures { Decides (Leads guarded table.now pool.now (size_in plan.now) n n) result }
@@ -79,7 +81,7 @@ fn comes_back(table: &[u64], pool: &[u64], plan: &[u64], n: usize, guarded: bool
         }
         done[top] = 1;
         mark_steps(table, pool, plan, top, guarded, &mut seen);
-        if table[3 * top] == AGAIN {
+        if table[3 * top] == Kind::Again as u64 {
             top = count;
         }
     }
@@ -88,17 +90,20 @@ fn comes_back(table: &[u64], pool: &[u64], plan: &[u64], n: usize, guarded: bool
 
 // Whether a cycle is looked for from a node of a kind: for refusal 10 from the excepts, for 9 from the
 // agains, since the lowest node of any cycle is one.
-fn asked(kind: u64, guarded: bool) -> bool
-    ensures { (a b : ℕ) (p : List ℕ) (z : ℕ → Size) → result ≡ pick guarded ((kind_in kind).rule a b p z).skips (eqb kind 9) }
+fn asked(word: u64, guarded: bool) -> bool
+    ensures { (a b : ℕ) (p : List ℕ) (z : ℕ → Size) → result ≡ pick guarded ((kind_in word).rule a b p z).skips (eqb word 9) }
 {
     if guarded {
-        return skips(kind);
+        return match Kind::try_from(word) {
+            Ok(kind) => skips(kind),
+            Err(_) => false,
+        };
     }
-    kind == AGAIN
+    word == Kind::Again as u64
 }
 
 // The lowest node that is asked and is on a cycle, or none.
-pub fn lowest_asked(table: &[u64], pool: &[u64], plan: &[u64], guarded: bool) -> u64
+pub fn lowest_asked(table: &[u64], pool: &[u64], plan: &[Entry], guarded: bool) -> u64
     requires { Ready table.now pool.now plan.now }
     ensures { Lowest (OnCycle guarded table.now pool.now (size_in plan.now)) result }
 {

@@ -3,9 +3,10 @@
 --   before_.., few_sum            what the code needs of those before x, and of their sum
 --   finite_join, endless_join     what a dep's join is, by finite or endless seconds
 -- Assumes nothing.
+use Rattle.grammar.specs.declared.entry.Entry.{Entry}
 use mathlib.Core.Path.{◌≡◌, refl, sym, ◌∙◌}
 use mathlib.Core.List.{List, [], ◌∷◌}
-use Prim.Native.Nat.{ℕ, zero, suc, ◌+◌, ◌*◌, ◌^◌, ◌≤◌, ◌<◌}
+use Prim.Native.Nat.{ℕ, zero, suc, ◌+◌, ◌^◌, ◌≤◌, ◌<◌}
 use native.Mathlib.Nat.{add-zero}
 use native.Mathlib.Numerals.{add-one}
 use native.Mathlib.Omega.{arith}
@@ -22,14 +23,14 @@ use Rattle.grammar.specs.kinds.Dep.{counts, seconds_of}
 use Rattle.grammar.specs.Seconds.{firsts, head_size, DepIn}
 
 -- what the loop has shown: sum is that of the seconds below j
-pub record Summing (plan ws : List ℕ) (sum j : ℕ) : Type 0 where
+pub record Summing (plan : List Entry) (ws : List ℕ) (sum j : ℕ) : Type 0 where
   pub le : j ≤ length ws
   pub is : total (counts (size_in plan) ws) ≡ sum + total (counts (size_in plan) (drop j ws))
 
-pub summing_none : {plan ws : List ℕ} → Summing plan ws 0 0
+pub summing_none : {plan : List Entry} {ws : List ℕ} → Summing plan ws 0 0
 summing_none = record { le = omega arith; is = omega arith }
 
-module _ {plan ws : List ℕ} {sum j : ℕ} (f : (i : ℕ) → i < length ws → size_word plan (get_or ws i 0) < 2 ^ 63) (s : Summing plan ws sum j) where
+module _ {plan : List Entry} {ws : List ℕ} {sum j : ℕ} (f : (i : ℕ) → i < length ws → size_word plan (get_or ws i 0) < 2 ^ 63) (s : Summing plan ws sum j) where
   module _ (l : j < length ws) where
     here : total (counts (size_in plan) (drop j ws)) ≡ size_word plan (get_or ws j 0) + total (counts (size_in plan) (drop (suc j) ws))
     unfolding total
@@ -57,11 +58,11 @@ total_take ts zero = omega arith
 total_take [] (suc x) = omega arith
 total_take (t ∷ ts) (suc x) = omega (arith, total_take ts x)
 
-module _ {plan p : List ℕ} {a b x : ℕ} (d : DepIn plan p a b) (chosen : x < firsts plan a) where
+module _ {plan : List Entry} {p : List ℕ} {a b x : ℕ} (d : DepIn plan p a b) (chosen : x < firsts plan a) where
   chosen_long : length (take x (drop b p)) ≡ x
   chosen_long = run_long p b x (omega (arith, d.inside, chosen))
 
-  pub before_nodes : (i : ℕ) → i < length (take x (drop b p)) → 4 * get_or (take x (drop b p)) i 0 + 3 < length plan
+  pub before_nodes : (i : ℕ) → i < length (take x (drop b p)) → get_or (take x (drop b p)) i 0 < length plan
   before_nodes i l =
       let w : i < x = omega (arith, chosen_long) in
       rw (run_at p b x (omega (arith, d.inside, chosen)) i w) (d.nodes i (omega (arith, chosen)))

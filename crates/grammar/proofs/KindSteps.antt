@@ -3,10 +3,11 @@
 --   dep_first, dep_count, dep_run   what the code of dep has of its first part and of its seconds
 --   names_as        steps that are the same
 -- Assumes nothing.
+use Rattle.grammar.specs.declared.entry.Entry.{Entry}
 use mathlib.Core.Path.{◌≡◌, sym, subst, ap}
 use mathlib.Core.Bool.{Bool}
 use mathlib.Core.List.{List, [], ◌∷◌}
-use Prim.Native.Nat.{ℕ, ◌+◌, ◌*◌, ◌≤◌, ◌<◌}
+use Prim.Native.Nat.{ℕ, ◌+◌, ◌≤◌, ◌<◌}
 use native.Mathlib.Omega.{arith}
 use lib.ListN.{length}
 use borrow.Author.Tests.{ltb-true}
@@ -23,7 +24,7 @@ use Rattle.grammar.specs.Plan.{size_in, Ready}
 use Rattle.grammar.specs.Seconds.{firsts}
 use Rattle.grammar.specs.Named.{Names}
 use Rattle.grammar.specs.declared.named.Named.{Named}
-use Rattle.grammar.proofs.Known.{Others, others_unknown}
+use Rattle.grammar.proofs.Known.{past_unknown}
 use Rattle.grammar.proofs.Stepping.{few_word}
 use Rattle.grammar.proofs.laws.Dep.{Shown, shows}
 
@@ -35,16 +36,16 @@ module _ (guarded : Bool) (t p : List ℕ) (z : ℕ → Size) (n : ℕ) where
   unfolding rule_at
   steps_by e = sym (ap (λ (k : ℕ). ((kind_in k).rule (a_of t n) (b_of t n) p (before z n)).steps guarded) e)
 
-  pub unknown_steps : Others (length kinds) (kind_of t n) → [] ≡ steps_of guarded t p z n
+  pub unknown_steps : length kinds ≤ kind_of t n → [] ≡ steps_of guarded t p z n
   unfolding rule_at
-  unknown_steps l = sym (ap (λ (k : Kind). (k.rule (a_of t n) (b_of t n) p (before z n)).steps guarded) (others_unknown (kind_of t n) l))
+  unknown_steps l = sym (ap (λ (k : Kind). (k.rule (a_of t n) (b_of t n) p (before z n)).steps guarded) (past_unknown (kind_of t n) l))
 
 -- ---- a dep
-module _ {t p plan : List ℕ} (r : Ready t p plan) {n : ℕ} (h : n < nodes t) (e : kind_of t n ≡ 6) where
+module _ {t p : List ℕ} {plan : List Entry} (r : Ready t p plan) {n : ℕ} (h : n < nodes t) (e : kind_of t n ≡ 6) where
   shown : Shown (node_at t p n) (size_in plan)
   shown = shows _ (size_in plan) (subst (λ (k : ℕ). Holds ((kind_in k).checks (node_at t p n) (before (size_in plan) n))) e (r.checked.holds n h))
 
-  pub dep_first : 4 * a_of t n + 3 < length plan
+  pub dep_first : a_of t n < length plan
   dep_first = omega (arith, ltb-true (a_of t n) n shown.low, h, r.long)
 
   pub dep_count : count (size_in plan (a_of t n)) ≡ firsts plan (a_of t n)

@@ -1,14 +1,13 @@
 -- A node's kind, by its word.
 --   or_yes, or_no             what an `or` of two tests leaves
---   by_word, not_known        what the kind answers of a node: of kind i, and of a kind that is not known
 --   used_at                   the rule of the constant table of used words
---   spare_none, spare_first, spare_second   so the code's test of spare words is 01's
---   row_goes_on, row_spare    a row by that test
+--   spare_first, spare_second   so the code's test of spare words is 01's
+--   row_unknown, row_goes_on, row_spare   a row of a kind that is not known, and by that test
 -- Assumes nothing.
-use mathlib.Core.Path.{◌≡◌, refl, sym, subst, ap}
+use mathlib.Core.Path.{◌≡◌, refl, ap}
 use mathlib.Core.Bool.{Bool, true, false, ◌||◌}
 use mathlib.Core.List.{List, [], ◌∷◌, map}
-use Rattle.std.specs.Prelude.{Result, Err}
+use Rattle.std.specs.Prelude.{Err}
 use Prim.Native.Nat.{ℕ, zero, suc, ◌≤◌, ◌<◌}
 use native.Mathlib.Nat.{not-suc-le-zero, le_of_suc-le-suc}
 use lib.Dec.{eqb}
@@ -16,21 +15,13 @@ use lib.ListN.{length, get_or}
 use Rattle.numbers.specs.Size.{Size}
 use Rattle.grammar.specs.Table.{kind_of, a_of, b_of}
 use Rattle.grammar.specs.Checks.{Check, asks, row}
-use Rattle.grammar.specs.Kind.{Node, Kind, spare}
+use Rattle.grammar.specs.Kind.{Kind, spare}
 use Rattle.grammar.specs.kinds.{kinds, used_words, unknown, kind_in}
 use Rattle.grammar.specs.Nodes.{node_at, rule_at, row_at}
 use Rattle.grammar.specs.Plan.{coded, weighed}
 use Rattle.grammar.specs.declared.refusal.Refusal.{Refusal}
 use Rattle.grammar.specs.declared.refusal.Refusal.TheVariants.{Kind as NoKind, SpareWord}
-use Rattle.grammar.proofs.Known.{Others, past_unknown, others_unknown}
-
--- ---- what the kind answers
-module _ (w : ℕ) (v : Node) (z : ℕ → Size) where
-  pub by_word : (i : ℕ) {r : Result ℕ Refusal} → w ≡ i → r ≡ weighed (kind_in i) v z → r ≡ weighed (kind_in w) v z
-  by_word i {r} e h = subst (λ (k : ℕ). r ≡ weighed (kind_in k) v z) (sym e) h
-
-  pub not_known : Others (length kinds) w → Err NoKind ≡ weighed (kind_in w) v z
-  not_known h = subst (λ (k : Kind). Err NoKind ≡ weighed k v z) (sym (others_unknown w h)) (unfold weighed row coded in refl)
+use Rattle.grammar.proofs.Known.{past_unknown}
 
 -- ---- spare words
 used_in : (ks : List Kind) (w : ℕ) → w < length ks
@@ -47,9 +38,6 @@ pub or_no : {u q : Bool} (x : Bool) → u ≡ false → q ≡ x → q ≡ (u || 
 or_no x e f = rw (f, e)
 
 module _ (w a b : ℕ) where
-  pub spare_none : length kinds ≤ w → true ≡ spare (kind_in w) a b
-  spare_none l = subst (λ (k : Kind). true ≡ spare k a b) (sym (past_unknown w l)) refl
-
   module _ {used : List (List Bool)} (u : used ≡ used_words) (l : w < length kinds) where
     used_at : get_or used w [] ≡ (kind_in w).uses_a ∷ (kind_in w).uses_b ∷ []
     used_at = rw u (used_in kinds w l)
@@ -74,6 +62,11 @@ module _ (t p : List ℕ) (z : ℕ → Size) (n : ℕ) where
   pub row_goes_on : spare (kind_in (kind_of t n)) (a_of t n) (b_of t n) ≡ true → weighed (kind_in (kind_of t n)) (node_at t p n) z ≡ coded (row_at t p z n)
   unfolding weighed row_at rule_at
   row_goes_on e = ap coded (passes _ SpareWord _ _ e)
+
+  -- nothing is spare of a kind that is not known, and its one check fails
+  pub row_unknown : length kinds ≤ kind_of t n → Err NoKind ≡ coded (row_at t p z n)
+  unfolding row_at rule_at row coded
+  row_unknown l = rw (past_unknown (kind_of t n) l)
 
   pub row_spare : spare (kind_in (kind_of t n)) (a_of t n) (b_of t n) ≡ false → Err SpareWord ≡ coded (row_at t p z n)
   unfolding row_at

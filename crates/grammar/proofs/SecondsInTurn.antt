@@ -5,10 +5,11 @@
 --   finite_split, endless_split   a dep's split, of finite or endless seconds
 --   second_in, second_is          the second that a visit chooses, and what the visit shows
 -- Assumes nothing.
+use Rattle.grammar.specs.declared.entry.Entry.{Entry}
 use mathlib.Core.Path.{◌≡◌, sym, ap, ◌∙◌}
 use mathlib.Core.Bool.{false}
 use mathlib.Core.List.{List, [], ◌∷◌}
-use Prim.Native.Nat.{ℕ, suc, ◌+◌, ◌*◌, ◌-◌, ◌^◌, ◌≤◌, ◌<◌}
+use Prim.Native.Nat.{ℕ, suc, ◌+◌, ◌-◌, ◌^◌, ◌≤◌, ◌<◌}
 use native.Mathlib.Nat.{add-zero}
 use native.Mathlib.Numerals.{add-one}
 use native.Mathlib.Omega.{arith}
@@ -37,14 +38,14 @@ unfolding later
 later_none q = let e : q.first + 0 ≡ q.first = omega arith in rw e
 
 -- what the loop has shown: the seconds below k are passed, and rest is what is left of n
-pub record Turning (plan ws : List ℕ) (n rest k : ℕ) : Type 0 where
+pub record Turning (plan : List Entry) (ws : List ℕ) (n rest k : ℕ) : Type 0 where
   pub le : k ≤ length ws
   pub is : in_turn (counts (size_in plan) ws) n ≡ later k (in_turn (counts (size_in plan) (drop k ws)) rest)
 
-pub turning_none : {plan ws : List ℕ} {n : ℕ} → Turning plan ws n n 0
+pub turning_none : {plan : List Entry} {ws : List ℕ} {n : ℕ} → Turning plan ws n n 0
 turning_none = record { le = omega arith; is = sym (later_none _) }
 
-module _ {plan ws : List ℕ} {n rest k : ℕ} (f : (j : ℕ) → j < length ws → size_word plan (get_or ws j 0) < 2 ^ 63) (s : Turning plan ws n rest k) where
+module _ {plan : List Entry} {ws : List ℕ} {n rest k : ℕ} (f : (j : ℕ) → j < length ws → size_word plan (get_or ws j 0) < 2 ^ 63) (s : Turning plan ws n rest k) where
   module _ (l : k < length ws) where
     here : in_turn (counts (size_in plan) (drop k ws)) rest ≡ in_turn (size_word plan (get_or ws k 0) ∷ counts (size_in plan) (drop (suc k) ws)) rest
     here = rw (drop-cons ws k 0 l, sized_finite (size_word plan (get_or ws k 0)) (f k l))
@@ -68,12 +69,12 @@ module _ {plan ws : List ℕ} {n rest k : ℕ} (f : (j : ℕ) → j < length ws 
       sym (s.is ∙ rw (drop_of_length-le ws {i = k} l, z))
 
 -- ---- the visit of a dep
-module _ {plan p : List ℕ} {a b : ℕ} (d : DepIn plan p a b) where
-  pub head_in : 4 * get_or p b 0 + 3 < length plan
+module _ {plan : List Entry} {p : List ℕ} {a b : ℕ} (d : DepIn plan p a b) where
+  pub head_in : get_or p b 0 < length plan
   head_in = rw add-zero at (d.nodes 0 d.some)
 
   -- the same of the words in a slice
-  pub nodes_in : (i : ℕ) → i < length (take (firsts plan a) (drop b p)) → 4 * get_or (take (firsts plan a) (drop b p)) i 0 + 3 < length plan
+  pub nodes_in : (i : ℕ) → i < length (take (firsts plan a) (drop b p)) → get_or (take (firsts plan a) (drop b p)) i 0 < length plan
   nodes_in i l = let w : i < firsts plan a = omega (arith, run_long p b (firsts plan a) d.inside) in rw (run_at p b (firsts plan a) d.inside i w) (d.nodes i w)
 
   pub finite_in : head_size plan p b < 2 ^ 63 → (i : ℕ) → i < length (take (firsts plan a) (drop b p))
@@ -96,7 +97,7 @@ module _ {plan p : List ℕ} {a b : ℕ} (d : DepIn plan p a b) where
   endless_split h n = rw (d.endless h, run_long p b (firsts plan a) d.inside)
 
 -- ---- a visit: q is its split, and its first part's number is below that part's size
-module _ {plan p : List ℕ} {a b : ℕ} (d : DepIn plan p a b) (n : ℕ) {q : Pair}
+module _ {plan : List Entry} {p : List ℕ} {a b : ℕ} (d : DepIn plan p a b) (n : ℕ) {q : Pair}
     (e : q ≡ Dep.split (seconds_of (size_in plan) (take (firsts plan a) (drop b p))) n)
     (l : (Dep.split (seconds_of (size_in plan) (take (firsts plan a) (drop b p))) n).first < firsts plan a) where
   first_low : q.first < firsts plan a

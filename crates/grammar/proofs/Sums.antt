@@ -5,6 +5,7 @@
 --   Passing    the pass over the first i words of a dep, all of them lower nodes
 --   turn_..    a turn of it; end-.. the row that it ends in
 -- Assumes nothing.
+use Rattle.grammar.specs.declared.entry.Entry.{Entry}
 use mathlib.Core.Path.{◌≡◌, refl, sym}
 use mathlib.Core.Bool.{Bool, true, false, not, ◌&&◌, false≢true}
 use mathlib.Core.List.{List, [], ◌∷◌, ◌++◌}
@@ -161,15 +162,15 @@ pub not_lower : (n : ℕ) (z : ℕ → Size) (cs : List ℕ) → all_lower n cs 
 unfolding row coded
 not_lower n z cs e = rw e
 
-pub record Passing (plan : List ℕ) (n : ℕ) (ws : List ℕ) (f s i : ℕ) : Type 0 where
+pub record Passing (plan : List Entry) (n : ℕ) (ws : List ℕ) (f s i : ℕ) : Type 0 where
   pub le : i ≤ length ws
   pub lower : all_lower n ws ≡ true
   pub is : Tally (before (size_in plan) n) (take i ws) f s
 
-pub turn_none : {plan : List ℕ} {n : ℕ} {ws : List ℕ} → all_lower n ws ≡ true → Passing plan n ws 0 0 0
+pub turn_none : {plan : List Entry} {n : ℕ} {ws : List ℕ} → all_lower n ws ≡ true → Passing plan n ws 0 0 0
 turn_none e = record { le = omega arith; lower = e; is = tally_none }
 
-module _ {plan : List ℕ} {n : ℕ} {ws : List ℕ} {f s i : ℕ} (r : Passing plan n ws f s i) where
+module _ {plan : List Entry} {n : ℕ} {ws : List ℕ} {f s i : ℕ} (r : Passing plan n ws f s i) where
   pub turn_few : f ≤ i
   turn_few = omega (arith, r.is.most, length-take i ws)
 

@@ -5,6 +5,7 @@ pub mod Checks
 pub mod Rule
 pub mod Kind
 pub mod kinds
+pub mod KindWords
 pub mod Nodes
 pub mod Law
 pub mod Checked

@@ -6,6 +6,7 @@
 --   ShowsDep      of a dep of any size
 --   NamesDep      the nodes that a dep names
 -- Assumes nothing.
+use Rattle.grammar.specs.declared.entry.Entry.{Entry}
 use Rattle.std.specs.Prelude.{◌≡◌, Bool, List, [], ◌∷◌, ℕ, ◌+◌, ◌≤◌, length, take, drop}
 use Rattle.numbers.specs.Size.{Size}
 use Rattle.numbers.specs.Dep.{Seconds}
@@ -26,19 +27,19 @@ ShowsTwo items r = items ≡ part r.first r.x 0 ∷ part r.second r.y 0 ∷ []
 abbrev pub ShowsTagged : List Item → Tagged → Type 0
 ShowsTagged items r = items ≡ own r.tag ∷ part r.part r.number 0 ∷ []
 
-abbrev pub steps_in : Bool → List ℕ → List ℕ → List ℕ → ℕ → List ℕ
+abbrev pub steps_in : Bool → List ℕ → List ℕ → List Entry → ℕ → List ℕ
 steps_in guarded t p plan n = steps_of guarded t p (size_in plan) n
 
-abbrev pub seconds_in : List ℕ → List ℕ → ℕ → ℕ → List ℕ
+abbrev pub seconds_in : List Entry → List ℕ → ℕ → ℕ → List ℕ
 seconds_in plan p a b = take (firsts plan a) (drop b p)
 
-abbrev pub seconds_sized : List ℕ → List ℕ → ℕ → ℕ → Seconds
+abbrev pub seconds_sized : List Entry → List ℕ → ℕ → ℕ → Seconds
 seconds_sized plan p a b = seconds_of (size_in plan) (seconds_in plan p a b)
 
-abbrev pub ShowsDep : List ℕ → List ℕ → ℕ → ℕ → ℕ → Two → Type 0
+abbrev pub ShowsDep : List Entry → List ℕ → ℕ → ℕ → ℕ → Two → Type 0
 ShowsDep plan p a b n r = (s : Size) → ShowsTwo ((dep_rule s (seconds_sized plan p a b) a (seconds_in plan p a b)).items n) r
 
 -- whatever pool it is that has the words
-abbrev pub NamesDep : List ℕ → ℕ → ℕ → Named → Type 0
+abbrev pub NamesDep : List Entry → ℕ → ℕ → Named → Type 0
 NamesDep plan a b r =
     (p : List ℕ) → b + firsts plan a ≤ length p → count (size_in plan a) ≡ firsts plan a → Names p (a ∷ seconds p b (size_in plan a)) r

@@ -4,11 +4,14 @@ ghost use Rattle.std.specs.Prelude.{◌≡◌, true, false, List, ℕ, ◌*◌, 
 ghost use Rattle.numbers.specs.Size.{Size, size_of, code_of};
 ghost use Rattle.grammar.specs.Table.{nodes};
 ghost use Rattle.grammar.specs.kinds.{used_words, kind_in};
+ghost use Rattle.grammar.specs.KindWords.{word_of_kind};
 ghost use Rattle.grammar.specs.Nodes.{node_with};
 ghost use Rattle.grammar.specs.Steps.{steps_of};
 ghost use Rattle.grammar.specs.Plan.{size_in, weighed, weighed_of, Ready};
 ghost use Rattle.grammar.specs.Named.{Names};
 
+use super::entry::Entry;
+use super::kind::Kind;
 use super::named::{Named, none, one, two};
 use super::refusal::Refusal;
 use numbers::size::ENDLESS;
@@ -24,28 +27,7 @@ pub mod or;
 pub mod pool;
 pub mod shift;
 
-// 01's kind words.
-pub const BELOW: u64 = 0;
-
-pub const NATS: u64 = 1;
-
-pub const POOL: u64 = 2;
-
-pub const SHIFT: u64 = 3;
-
-pub const OR: u64 = 4;
-
-pub const CONS: u64 = 5;
-
-pub const DEP: u64 = 6;
-
-pub const EXCEPT: u64 = 7;
-
-pub const FIX: u64 = 8;
-
-pub const AGAIN: u64 = 9;
-
-// The length of the table of used words: kind words from here on are not known.
+// As many kinds as there are.
 pub const KINDS: usize = 10;
 
 // "One constant table says which of a and b each kind uses": yes or no for a and for b, a row a kind.
@@ -114,60 +96,56 @@ pub fn used_words() -> [[bool; 2]; KINDS]
 pub fn row(
     table: &[u64],
     pool: &[u64],
-    plan: &[u64],
+    plan: &[Entry],
     n: usize,
-    kind: u64,
-    a: u64,
+    kind: Kind,
+    a: usize,
     b: u64,
 ) -> Result<u64, Refusal>
-    requires { (length table.now ≡ 3 * nodes table.now) × (n < nodes table.now) × (4 * n ≤ length plan.now) }
-    ensures { result ≡ weighed (kind_in kind) (node_with table.now pool.now n a b) (size_in plan.now) }
+    requires { (length table.now ≡ 3 * nodes table.now) × (n < nodes table.now) × (n ≤ length plan.now) }
+    ensures { result ≡ weighed (kind_in (word_of_kind kind)) (node_with table.now pool.now n a b) (size_in plan.now) }
 {
     match kind {
-        BELOW => below::check(a),
-        NATS => nats::check(),
-        POOL => pool::check(pool, a as usize, b as usize),
-        SHIFT => shift::check(table, plan, n, a as usize, b),
-        OR => or::check(plan, n, a as usize, b as usize),
-        CONS => cons::check(plan, n, a as usize, b as usize),
-        DEP => dep::check(pool, plan, n, a as usize, b as usize),
-        EXCEPT => except::check(plan, n, a as usize, b),
-        FIX => fix::check(plan, n, a as usize),
-        AGAIN => again::check(table, n, a as usize),
-        _ => Err(Refusal::Kind),
+        Kind::Below => below::check(a as u64),
+        Kind::Nats => nats::check(),
+        Kind::Pool => pool::check(pool, a, b as usize),
+        Kind::Shift => shift::check(table, plan, n, a, b),
+        Kind::Or => or::check(plan, n, a, b as usize),
+        Kind::Cons => cons::check(plan, n, a, b as usize),
+        Kind::Dep => dep::check(pool, plan, n, a, b as usize),
+        Kind::Except => except::check(plan, n, a, b),
+        Kind::Fix => fix::check(plan, n, a),
+        Kind::Again => again::check(table, n, a),
     }
 }
 
 // The nodes that node n names; where not `guarded`, without those to which a step guards a cycle.
-pub fn steps_of(table: &[u64], pool: &[u64], plan: &[u64], n: usize, guarded: bool) -> Named
+pub fn steps_of(table: &[u64], pool: &[u64], plan: &[Entry], n: usize, guarded: bool) -> Named
     requires ready { Ready table.now pool.now plan.now }
     requires n_bound { n < nodes table.now }
     ensures { Names pool.now (steps_of guarded table.now pool.now (size_in plan.now) n) result }
 {
-    let kind = table[3 * n];
     let a = table[3 * n + 1] as usize;
     let b = table[3 * n + 2] as usize;
-    match kind {
-        BELOW => none(),
-        NATS => none(),
-        POOL => none(),
-        SHIFT => one(a),
-        OR => or::steps(a, b, guarded),
-        CONS => two(a, b),
-        DEP => dep::steps(plan, a, b),
-        EXCEPT => one(a),
-        FIX => one(a),
-        AGAIN => one(a),
-        _ => none(),
+    match Kind::try_from(table[3 * n]) {
+        Ok(Kind::Below) => none(),
+        Ok(Kind::Nats) => none(),
+        Ok(Kind::Pool) => none(),
+        Ok(Kind::Shift) => one(a),
+        Ok(Kind::Or) => or::steps(a, b, guarded),
+        Ok(Kind::Cons) => two(a, b),
+        Ok(Kind::Dep) => dep::steps(plan, a, b),
+        Ok(Kind::Except) => one(a),
+        Ok(Kind::Fix) => one(a),
+        Ok(Kind::Again) => one(a),
+        Err(_) => none(),
     }
 }
 
 // Whether a kind is an except: refusal 10 asks those alone.
-pub fn skips(kind: u64) -> bool
-    ensures { (a b : ℕ) (p : List ℕ) (z : ℕ → Size) → result ≡ ((kind_in kind).rule a b p z).skips }
+#[tactic(auto, unfolding(crate::proofs::laws::rules))]
+pub fn skips(kind: Kind) -> bool
+    ensures { (a b : ℕ) (p : List ℕ) (z : ℕ → Size) → result ≡ ((kind_in (word_of_kind kind)).rule a b p z).skips }
 {
-    match kind {
-        EXCEPT => true,
-        _ => false,
-    }
+    matches!(kind, Kind::Except)
 }

@@ -2,6 +2,8 @@
 // crate `planning` goes through the nodes, and `cycles` finds cycles.
 #![tactic(auto)]
 
+pub mod entry;
+pub mod kind;
 pub mod kinds;
 pub mod named;
 pub mod pool_words;

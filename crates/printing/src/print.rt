@@ -7,10 +7,9 @@ ghost use Rattle.printing.specs.Printed.{case_line, printed, Judges, Answers};
 
 use super::input::{POOL_WORDS, TABLE_WORDS, one_at};
 use super::shape::Shape;
-use cases::Written;
 use checked::opened::begin;
 use checked::prepared::PLAN;
-use grammar::refusal::{Refusal, Verdict, number_of};
+use grammar::refusal::{Refusal, Refused, number_of};
 use texts::page::Page;
 
 // "The program has room for 4,096 cells, so a longer case is refused 14."
@@ -66,13 +65,13 @@ fn judge(asked: &Asked<'_>, text: &[u8], from: usize, page: &mut Page)
         page.new }
 {
     match opened(asked) {
-        Verdict::Accepted => put_cases(asked, text, from, page),
-        Verdict::Refused(r, k) => page.refused_line(r, k),
+        Ok(()) => put_cases(asked, text, from, page),
+        Err(e) => page.refused_line(e.refusal, e.node),
     }
 }
 
 // "A refused table or start prints only `refused N at K`"
-fn opened(asked: &Asked<'_>) -> Verdict
+fn opened(asked: &Asked<'_>) -> Result<(), Refused>
     ensures { result ≡ opening asked.now.table.now asked.now.pool.now asked.now.start }
 {
     let mut plan = [0u64; PLAN];
@@ -98,8 +97,8 @@ fn put_answer(asked: &Asked<'_>, n: u64, page: &mut Page)
 {
     let mut cells = [0u64; ROOM];
     match cases::write(asked.table, asked.pool, asked.start, n, &mut cells) {
-        Written::Done(count) => put_case(n, &cells[..count], page),
-        Written::Refused(r, _) => put_case_refused(n, r, page),
+        Ok(count) => put_case(n, &cells[..count], page),
+        Err(e) => put_case_refused(n, e.refusal, page),
     }
 }
 

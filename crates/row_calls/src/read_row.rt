@@ -8,7 +8,6 @@ ghost use Rattle.row_calls.specs.ReadRow.{read_row_text, read_row_leaves};
 use asking::answers::{done_line, refused_at_item};
 use asking::buffer::fill;
 use asking::calls::{About, OnRow};
-use rows::Row;
 use texts::page::Page;
 
 #[derive(Clone, Copy)]
@@ -34,7 +33,7 @@ fn read_cells(about: &About<'_>, start: usize, cells: &[u64], numbers: &mut [u64
 {
     fill(numbers);
     match rows::read_row(about.table, about.pool, start, cells, numbers) {
-        Row::Done(items, count) => done_line(items, count, numbers, items, page),
-        Row::Refused(refusal, node, item) => { refused_at_item(refusal, node, item, numbers, page) }
+        Ok(row) => done_line(row.items, row.cells, numbers, row.items, page),
+        Err(e) => refused_at_item(e.refusal, e.node, e.item, numbers, page),
     }
 }

@@ -3,7 +3,6 @@ ghost use Rattle.row_calls.specs.Reader.{asks_text};
 
 use asking::answers::item_line;
 use asking::calls::{About, OnCells};
-use rows::Next;
 use texts::page::Page;
 
 #[derive(Clone, Copy)]
@@ -21,15 +20,15 @@ impl OnCells for Reader<'_> {
             let stride = rows::read_at(self.about.table, self.about.pool, start, cells, at);
             let handed = stride.answer;
             match handed {
-                Next::Item(found, size) => {
-                    item_line(found, size, page);
+                Ok(Some(next)) => {
+                    item_line(next.number, next.cells, page);
                     at = stride.at;
                 }
-                Next::End => {
+                Ok(None) => {
                     return page.put_text(b"end\n");
                 }
-                Next::Refused(refusal, node) => {
-                    return page.refused_line(refusal, node);
+                Err(e) => {
+                    return page.refused_line(e.refusal, e.node);
                 }
             }
         }

@@ -8,7 +8,6 @@ ghost use Rattle.row_calls.specs.WriteRow.{write_row_text, write_row_leaves};
 use asking::answers::{done_line, refused_at_item};
 use asking::buffer::fill;
 use asking::calls::{About, OnRow};
-use rows::Row;
 use texts::page::Page;
 
 #[derive(Clone, Copy)]
@@ -34,7 +33,7 @@ fn write_cells(about: &About<'_>, start: usize, numbers: &[u64], cells: &mut [u6
 {
     fill(cells);
     match rows::write_row(about.table, about.pool, start, numbers, cells) {
-        Row::Done(items, count) => done_line(items, count, cells, count, page),
-        Row::Refused(refusal, node, item) => { refused_at_item(refusal, node, item, cells, page) }
+        Ok(row) => done_line(row.items, row.cells, cells, row.cells, page),
+        Err(e) => refused_at_item(e.refusal, e.node, e.item, cells, page),
     }
 }

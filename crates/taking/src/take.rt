@@ -11,7 +11,8 @@ ghost use Rattle.taking.specs.Took.{Taken, TakenBy, Roomy};
 ghost use Rattle.walk.specs.Lent.{pool_of, plan_of};
 
 use super::own::{DEEP, UNFIT, any, counted, listed};
-use grammar::kinds;
+use grammar::entry::Entry;
+use grammar::kind::Kind;
 use grammar::kinds::{cons, dep, except, or};
 use numbers::joined::BIG;
 use walk::lent::Lent;
@@ -137,21 +138,17 @@ pub fn take(lent: &Lent, i: usize, row: &&[u64], left: usize, off: u64, at: &mut
         return DEEP;
     }
     let plan = lent.plan;
-    let kind = plan[4 * i];
-    let a = plan[4 * i + 1] as usize;
-    let b = plan[4 * i + 2];
+    let Entry { kind, a, b, .. } = plan[i];
     match kind {
-        kinds::BELOW => counted(a as u64, row, off, at),
-        kinds::NATS => any(row, off, at),
-        kinds::POOL => listed(lent, a, b as usize, row, off, at),
-        kinds::SHIFT => take(lent, a, row, left - 1, off + b, at),
-        kinds::OR => tagged(lent, a, b as usize, row, left - 1, off, at),
-        kinds::CONS => both(lent, a, b as usize, row, left - 1, off, at),
-        kinds::DEP => chosen(lent, a, b as usize, row, left - 1, off, at),
-        kinds::EXCEPT => without(lent, a, b, row, left - 1, off, at),
-        kinds::FIX => take(lent, a, row, left - 1, off, at),
-        kinds::AGAIN => take(lent, a, row, left - 1, off, at),
-        // Not reached: a checked plan has no other kind.
-        _ => UNFIT,
+        Kind::Below => counted(a as u64, row, off, at),
+        Kind::Nats => any(row, off, at),
+        Kind::Pool => listed(lent, a, b as usize, row, off, at),
+        Kind::Shift => take(lent, a, row, left - 1, off + b, at),
+        Kind::Or => tagged(lent, a, b as usize, row, left - 1, off, at),
+        Kind::Cons => both(lent, a, b as usize, row, left - 1, off, at),
+        Kind::Dep => chosen(lent, a, b as usize, row, left - 1, off, at),
+        Kind::Except => without(lent, a, b, row, left - 1, off, at),
+        Kind::Fix => take(lent, a, row, left - 1, off, at),
+        Kind::Again => take(lent, a, row, left - 1, off, at),
     }
 }

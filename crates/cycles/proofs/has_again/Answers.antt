@@ -8,13 +8,13 @@ pub loop-n-init : goal.loop-n-init
 loop-n-init c =
     (omega arith, below_none _)
 
-pub returns-then-table-n-eq-AGAIN : goal.returns-then-table-n-eq-AGAIN
-returns-then-table-n-eq-AGAIN c =
+pub returns-then-table-n : goal.returns-then-table-n
+returns-then-table-n c =
     λ e. absurd (false≢true (sym e))
 
 pub loop-n-preserved : goal.loop-n-preserved
 loop-n-preserved c =
-    (omega arith, below_more _ _ c.loop-n.invariant.1 c.if-table-n-eq-AGAIN.false)
+    (omega arith, below_more _ _ c.loop-n.invariant.1 c.if-table-n.false)
 
 pub returns : goal.returns
 returns c =

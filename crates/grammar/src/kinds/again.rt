@@ -6,8 +6,9 @@ ghost use Rattle.grammar.specs.Nodes.{node_with};
 ghost use Rattle.grammar.specs.kinds.Again.{again};
 ghost use Rattle.grammar.specs.Plan.{weighed};
 
+use super::super::kind::Kind;
 use super::super::refusal::Refusal;
-use super::{FIX, asks};
+use super::asks;
 use numbers::size::ENDLESS;
 
 #[tactic(auto, unfolding(crate::specs::Plan::weighed, crate::specs::Plan::coded, crate::specs::Checks::row, crate::specs::kinds::Fix::pass_rule))]
@@ -17,6 +18,6 @@ pub fn check(table: &[u64], n: usize, a: usize) -> Result<u64, Refusal>
 {
     asks(n < a, Refusal::Reference)?;
     asks(a < table.len() / 3, Refusal::Reference)?;
-    asks(table[3 * a] == FIX, Refusal::Reference)?;
+    asks(table[3 * a] == Kind::Fix as u64, Refusal::Reference)?;
     Ok(ENDLESS)
 }

@@ -6,12 +6,13 @@ ghost use Rattle.numbers.specs.Dep.{in_turn};
 ghost use Rattle.numbers.specs.Dep;
 ghost use Rattle.grammar.specs.Kind.{before};
 ghost use Rattle.grammar.specs.Nodes.{node_with};
-ghost use Rattle.grammar.specs.Plan.{size_in, coded, weighed};
+ghost use Rattle.grammar.specs.Plan.{size_in, size_word, coded, weighed};
 ghost use Rattle.grammar.specs.Rule.{part};
 ghost use Rattle.grammar.specs.kinds.Dep.{counts, seconds_of, seconds_row, dep};
 ghost use Rattle.grammar.specs.Seconds.{firsts, DepIn};
 ghost use Rattle.grammar.specs.Shown.{seconds_sized, ShowsDep, NamesDep};
 
+use super::super::entry::Entry;
 use super::super::named::Named;
 use super::super::pool_words::{all_lower, run, run_within};
 use super::super::refusal::Refusal;
@@ -24,12 +25,12 @@ use numbers::size::{ENDLESS, LARGEST};
 const MOST_FIRSTS: u64 = 256;
 
 #[tactic(auto, using(crate::proofs::Tests::few_test, crate::proofs::Tests::few_count), unfolding(crate::specs::Plan::weighed, crate::specs::Plan::coded, crate::specs::Checks::row, crate::specs::kinds::Dep::dep_rule))]
-pub fn check(pool: &[u64], plan: &[u64], n: usize, a: usize, b: usize) -> Result<u64, Refusal>
-    requires { 4 * n ≤ length plan.now }
+pub fn check(pool: &[u64], plan: &[Entry], n: usize, a: usize, b: usize) -> Result<u64, Refusal>
+    requires { n ≤ length plan.now }
     ensures { (t : List ℕ) → result ≡ weighed dep (node_with t pool.now n a b) (size_in plan.now) }
 {
     asks(a < n, Refusal::Reference)?;
-    let m = plan[4 * a + 3];
+    let m = plan[a].size;
     asks(m <= MOST_FIRSTS, Refusal::UnsuitedPart)?;
     let words = run_within(pool, b, m as usize)?;
     seconds(plan, n, words)
@@ -38,8 +39,8 @@ pub fn check(pool: &[u64], plan: &[u64], n: usize, a: usize, b: usize) -> Result
 // The rest of a dep's row, in two passes over its seconds: "each of those m words a lower node" comes before "all finite or all endless",
 // and the pass over their sizes, judged after the last one, is shorter without that test.
 #[tactic(auto, using(crate::proofs::Sums::not_lower, crate::proofs::Sums::turn_few, crate::proofs::Sums::end_sum, crate::proofs::Sums::end_past, crate::proofs::Sums::end_endless, crate::proofs::Sums::end_mixed))]
-fn seconds(plan: &[u64], n: usize, words: &[u64]) -> Result<u64, Refusal>
-    requires { 4 * n ≤ length plan.now }
+fn seconds(plan: &[Entry], n: usize, words: &[u64]) -> Result<u64, Refusal>
+    requires { n ≤ length plan.now }
     ensures { result ≡ coded (seconds_row n (before (size_in plan.now) n) words.now) }
 {
     asks(all_lower(words, n), Refusal::Reference)?;
@@ -47,7 +48,7 @@ fn seconds(plan: &[u64], n: usize, words: &[u64]) -> Result<u64, Refusal>
     let mut finite = 0;
     let mut sum: u64 = 0;
     for c in words {
-        let s = plan[4 * *c as usize + 3];
+        let s = plan[*c as usize].size;
         if s < ENDLESS {
             finite += 1;
             // Past 2^62 it grows no more, so it cannot overflow.
@@ -66,14 +67,14 @@ fn seconds(plan: &[u64], n: usize, words: &[u64]) -> Result<u64, Refusal>
 
 // "Seconds finite: all pairs of first 0, then of first 1, and so on."
 #[tactic(auto, using(crate::proofs::SecondsInTurn::turning_none, crate::proofs::SecondsInTurn::turning_found, crate::proofs::SecondsInTurn::turning_more, crate::proofs::SecondsInTurn::turning_end))]
-fn in_turn(plan: &[u64], words: &[u64], n: u64) -> Pair
-    requires inside { (i : ℕ) → i < length words.now → 4 * get_or words.now i 0 + 3 < length plan.now }
-    requires finite { (i : ℕ) → i < length words.now → get_or plan.now (4 * get_or words.now i 0 + 3) 0 < 2 ^ 63 }
+fn in_turn(plan: &[Entry], words: &[u64], n: u64) -> Pair
+    requires inside { (i : ℕ) → i < length words.now → get_or words.now i 0 < length plan.now }
+    requires finite { (i : ℕ) → i < length words.now → size_word plan.now (get_or words.now i 0) < 2 ^ 63 }
     ensures { result ≡ in_turn (counts (size_in plan.now) words.now) n }
 {
     let mut rest = n;
     for (k, c) in words.iter().enumerate() {
-        let s = plan[4 * *c as usize + 3];
+        let s = plan[*c as usize].size;
         if rest < s {
             return Pair {
                 first: k as u64,
@@ -89,20 +90,20 @@ fn in_turn(plan: &[u64], words: &[u64], n: u64) -> Pair
 }
 
 // The two parts' numbers, by the seconds' sizes: "Seconds endless: first n mod m, second n div m."
-fn parts(pool: &[u64], plan: &[u64], a: usize, b: usize, n: u64) -> Pair
+fn parts(pool: &[u64], plan: &[Entry], a: usize, b: usize, n: u64) -> Pair
     requires { DepIn plan.now pool.now a b }
     ensures { result ≡ Dep.split (seconds_sized plan.now pool.now a b) n }
 {
-    let m = plan[4 * a + 3];
+    let m = plan[a].size;
     let head = pool[b] as usize;
-    if plan[4 * head + 3] < ENDLESS {
+    if plan[head].size < ENDLESS {
         return in_turn(plan, run(pool, b, m as usize), n);
     }
     numbers::dep::split_endless(m, n)
 }
 
 // A visit at n: the first part, and the second that its number chooses.
-pub fn step(pool: &[u64], plan: &[u64], a: usize, b: usize, n: u64) -> Two
+pub fn step(pool: &[u64], plan: &[Entry], a: usize, b: usize, n: u64) -> Two
     requires dep_in { DepIn plan.now pool.now a b × (length pool.now ≤ 4096) }
     requires n_bound { (Dep.split (seconds_of (size_in plan.now) (take (firsts plan.now a) (drop b pool.now))) n).first < firsts plan.now a }
     ensures { ShowsDep plan.now pool.now a b n result }
@@ -119,33 +120,33 @@ pub fn step(pool: &[u64], plan: &[u64], a: usize, b: usize, n: u64) -> Two
 
 // The sum of the sizes of a dep's seconds, of some of them: those before the one that is read.
 #[tactic(auto, using(crate::proofs::Joins::summing_none, crate::proofs::Joins::summing_more, crate::proofs::Joins::summing_fits, crate::proofs::Joins::summing_end))]
-fn sum_of(plan: &[u64], words: &[u64]) -> u64
-    requires inside { (i : ℕ) → i < length words.now → 4 * get_or words.now i 0 + 3 < length plan.now }
-    requires finite { (i : ℕ) → i < length words.now → get_or plan.now (4 * get_or words.now i 0 + 3) 0 < 2 ^ 63 }
+fn sum_of(plan: &[Entry], words: &[u64]) -> u64
+    requires inside { (i : ℕ) → i < length words.now → get_or words.now i 0 < length plan.now }
+    requires finite { (i : ℕ) → i < length words.now → size_word plan.now (get_or words.now i 0) < 2 ^ 63 }
     requires sum_bound { Dep.total (counts (size_in plan.now) words.now) < 2 ^ 63 }
     ensures { result ≡ Dep.total (counts (size_in plan.now) words.now) }
 {
     let mut sum = 0;
     for c in words {
-        sum += plan[4 * *c as usize + 3];
+        sum += plan[*c as usize].size;
     }
     sum
 }
 
 // The number of a dep's case: x is the first part's number, y that of the second that it chooses.
-fn joined(pool: &[u64], plan: &[u64], a: usize, b: usize, x: u64, y: u64) -> Option<u64>
+fn joined(pool: &[u64], plan: &[Entry], a: usize, b: usize, x: u64, y: u64) -> Option<u64>
     requires { DepIn plan.now pool.now a b × (x < firsts plan.now a) }
     ensures { result ≡ capped (Dep.join (seconds_sized plan.now pool.now a b) x y) }
 {
     let head = pool[b] as usize;
-    if plan[4 * head + 3] < ENDLESS {
+    if plan[head].size < ENDLESS {
         let sum = sum_of(plan, run(pool, b, x as usize));
         return numbers::dep::join_finite(sum, y);
     }
-    numbers::dep::join_endless(plan[4 * a + 3], x, y)
+    numbers::dep::join_endless(plan[a].size, x, y)
 }
 
-pub fn join(pool: &[u64], plan: &[u64], a: usize, b: usize, x: u64, y: u64) -> u64
+pub fn join(pool: &[u64], plan: &[Entry], a: usize, b: usize, x: u64, y: u64) -> u64
     requires { DepIn plan.now pool.now a b × (x < firsts plan.now a) }
     ensures { result ≡ word_of (capped (Dep.join (seconds_sized plan.now pool.now a b) x y)) }
 {
@@ -153,8 +154,8 @@ pub fn join(pool: &[u64], plan: &[u64], a: usize, b: usize, x: u64, y: u64) -> u
 }
 
 // "to a dep's first and each second"
-pub fn steps(plan: &[u64], a: usize, b: usize) -> Named
-    requires { 4 * a + 3 < length plan.now }
+pub fn steps(plan: &[Entry], a: usize, b: usize) -> Named
+    requires { a < length plan.now }
     ensures { NamesDep plan.now a b result }
 {
     Named {
@@ -163,6 +164,6 @@ pub fn steps(plan: &[u64], a: usize, b: usize) -> Named
         a,
         b: 0,
         at: b,
-        count: plan[4 * a + 3] as usize,
+        count: plan[a].size as usize,
     }
 }

@@ -6,6 +6,7 @@ ghost use Rattle.grammar.specs.Nodes.{node_with};
 ghost use Rattle.grammar.specs.kinds.Except.{except};
 ghost use Rattle.grammar.specs.Plan.{size_in, weighed};
 
+use super::super::entry::Entry;
 use super::super::refusal::Refusal;
 use super::asks;
 use numbers::joined::BIG;
@@ -13,12 +14,12 @@ use numbers::size;
 use numbers::size::LARGEST;
 
 #[tactic(auto, using(crate::proofs::Tests::one_test, crate::proofs::Tests::below_test), unfolding(crate::specs::Plan::weighed, crate::specs::Plan::coded, crate::specs::Checks::row, crate::specs::kinds::Except::except_rule))]
-pub fn check(plan: &[u64], n: usize, a: usize, b: u64) -> Result<u64, Refusal>
-    requires { 4 * n ≤ length plan.now }
+pub fn check(plan: &[Entry], n: usize, a: usize, b: u64) -> Result<u64, Refusal>
+    requires { n ≤ length plan.now }
     ensures { (t p : List ℕ) → result ≡ weighed except (node_with t p n a b) (size_in plan.now) }
 {
     asks(a < n, Refusal::Reference)?;
-    let s = plan[4 * a + 3];
+    let s = plan[a].size;
     asks(s != 1, Refusal::UnsuitedPart)?;
     asks(b < s, Refusal::Range)?;
     asks(b < LARGEST, Refusal::Range)?;

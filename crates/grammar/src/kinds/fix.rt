@@ -4,16 +4,17 @@ ghost use Rattle.grammar.specs.Nodes.{node_with};
 ghost use Rattle.grammar.specs.kinds.Fix.{fix};
 ghost use Rattle.grammar.specs.Plan.{size_in, weighed};
 
+use super::super::entry::Entry;
 use super::super::refusal::Refusal;
 use super::asks;
 use numbers::size::ENDLESS;
 
 #[tactic(auto, using(crate::proofs::Tests::endless_test), unfolding(crate::specs::Plan::weighed, crate::specs::Plan::coded, crate::specs::Checks::row, crate::specs::kinds::Fix::pass_rule))]
-pub fn check(plan: &[u64], n: usize, a: usize) -> Result<u64, Refusal>
-    requires { 4 * n ≤ length plan.now }
+pub fn check(plan: &[Entry], n: usize, a: usize) -> Result<u64, Refusal>
+    requires { n ≤ length plan.now }
     ensures { (t p : List ℕ) (b : ℕ) → result ≡ weighed fix (node_with t p n a b) (size_in plan.now) }
 {
     asks(a < n, Refusal::Reference)?;
-    asks(ENDLESS <= plan[4 * a + 3], Refusal::UnsuitedPart)?;
+    asks(ENDLESS <= plan[a].size, Refusal::UnsuitedPart)?;
     Ok(ENDLESS)
 }

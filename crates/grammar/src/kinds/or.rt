@@ -10,6 +10,7 @@ ghost use Rattle.grammar.specs.Plan.{size_in, weighed};
 ghost use Rattle.grammar.specs.Named.{Names};
 ghost use Rattle.grammar.specs.Shown.{ShowsTagged};
 
+use super::super::entry::Entry;
 use super::super::named::{Named, one, two};
 use super::super::refusal::Refusal;
 use super::{Tagged, asks, of_measured};
@@ -18,13 +19,13 @@ use numbers::or::Part;
 use numbers::size;
 
 #[tactic(auto, unfolding(crate::specs::Plan::weighed, crate::specs::Plan::coded, crate::specs::Checks::row))]
-pub fn check(plan: &[u64], n: usize, a: usize, b: usize) -> Result<u64, Refusal>
-    requires { 4 * n ≤ length plan.now }
+pub fn check(plan: &[Entry], n: usize, a: usize, b: usize) -> Result<u64, Refusal>
+    requires { n ≤ length plan.now }
     ensures { (t p : List ℕ) → result ≡ weighed or (node_with t p n a b) (size_in plan.now) }
 {
     asks(a < n, Refusal::Reference)?;
     asks(b < n, Refusal::Reference)?;
-    let m = size::sum(plan[4 * a + 3], plan[4 * b + 3]);
+    let m = size::sum(plan[a].size, plan[b].size);
     of_measured(m)
 }
 
@@ -39,11 +40,11 @@ pub fn steps(a: usize, b: usize, guarded: bool) -> Named
 }
 
 // A visit at n: the tag and the part that n is of, and its number there, by the parts' sizes.
-pub fn step(plan: &[u64], a: usize, b: usize, n: u64) -> Tagged
-    requires { (4 * a + 3 < length plan.now) × (4 * b + 3 < length plan.now) }
+pub fn step(plan: &[Entry], a: usize, b: usize, n: u64) -> Tagged
+    requires { (a < length plan.now) × (b < length plan.now) }
     ensures { ShowsTagged ((or_rule (size_in plan.now a) (size_in plan.now b) a b).items n) result }
 {
-    match numbers::or::split(plan[4 * a + 3], plan[4 * b + 3], n) {
+    match numbers::or::split(plan[a].size, plan[b].size, n) {
         Part::First(m) => Tagged {
             tag: 0,
             part: a,
@@ -74,9 +75,9 @@ pub fn sides_of(tag: u64, a: usize, b: usize) -> Sides
 }
 
 // The number of an or's case: m is the number of the part with this tag; c is the other part.
-pub fn join(plan: &[u64], tag: u64, c: usize, m: u64) -> u64
-    requires { (tag ≤ 1) × (4 * c + 3 < length plan.now) }
+pub fn join(plan: &[Entry], tag: u64, c: usize, m: u64) -> u64
+    requires { (tag ≤ 1) × (c < length plan.now) }
     ensures { result ≡ word_of (capped (Or.turn tag (size_in plan.now c) m)) }
 {
-    numbers::or::turned(tag, plan[4 * c + 3], m).unwrap_or(BIG)
+    numbers::or::turned(tag, plan[c].size, m).unwrap_or(BIG)
 }

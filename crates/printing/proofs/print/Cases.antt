@@ -11,10 +11,9 @@ use native.Mathlib.Omega.{arith}
 use lib.Dec.{leb}
 use lib.ListN.{length, take}
 use borrow.Author.Tests.{leb-true, leb-false}
-use Rattle.grammar.specs.declared.refusal.Refusal.{Refusal}
-use Rattle.cases.specs.Write.{writes, Wrote}
-use Rattle.cases.specs.declared.writing.Written.{Written}
-use Rattle.cases.specs.declared.writing.Written.TheVariants.{Done, Refused}
+use Rattle.grammar.specs.declared.refusal.Refused.{Refused}
+use Rattle.std.specs.Prelude.{Ok, Err}
+use Rattle.cases.specs.Write.{Written, writes, Wrote}
 use Rattle.cases.proofs.Counted.{written_cells}
 use Rattle.cases.proofs.Values.{wrote_is}
 use Rattle.texts.specs.declared.page.Page.{Page}
@@ -31,12 +30,12 @@ module _ {t p : List ℕ} {i n : ℕ} {old last : List ℕ} {w : Written} (k : W
   wrote : writes t p i n room ≡ w
   wrote = sym (rw size at (wrote_is k))
 
-  pub case_done : (count : ℕ) → w ≡ Done count → {page after : Page} → Puts (case_text n (take count last)) page after
+  pub case_done : (count : ℕ) → w ≡ Ok count → {page after : Page} → Puts (case_text n (take count last)) page after
       → Puts (case_line t p i n) page after
   unfolding case_line
   case_done count e g = rw (wrote, e, ← written_cells k count e) g
 
-  pub case_refused : {x : Refusal} {node : ℕ} → w ≡ Refused x node → {page after : Page} → Puts (case_refused_text n x) page after
+  pub case_refused : {x : Refused} → w ≡ Err x → {page after : Page} → Puts (case_refused_text n x.refusal) page after
       → Puts (case_line t p i n) page after
   unfolding case_line
   case_refused e g = rw (wrote, e) g

@@ -8,12 +8,12 @@ use Rattle.case_calls.proofs.write.write_case.Goals as goal
 
 pub listed_line-requires : goal.listed_line-requires
 listed_line-requires c =
-    omega (arith, written_fits c.write.ensures _ c.in-Done.is)
+    omega (arith, written_fits c.write.ensures _ c.in-Ok.is)
 
-pub returns-in-Done : goal.returns-in-Done
-returns-in-Done c =
+pub returns-in-Ok : goal.returns-in-Ok
+returns-in-Ok c =
     search prints_done
 
-pub returns-in-Refused : goal.returns-in-Refused
-returns-in-Refused c =
-    prints_refused _ c.fill.ensures c.write.ensures c.in-Refused.is (c.refused.ensures then c.end_line.ensures)
+pub returns-in-Err : goal.returns-in-Err
+returns-in-Err c =
+    prints_refused _ c.fill.ensures c.write.ensures c.in-Err.is (c.refused.ensures then c.end_line.ensures)

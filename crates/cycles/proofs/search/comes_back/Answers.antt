@@ -15,12 +15,12 @@ pub loop-top-preserved-then-done-top-ne0 : goal.loop-top-preserved-then-done-top
 loop-top-preserved-then-done-top-ne0 c =
     search sought_done
 
-pub loop-top-smaller-then-table-top-eq-AGAIN : goal.loop-top-smaller-then-table-top-eq-AGAIN
-loop-top-smaller-then-table-top-eq-AGAIN c =
+pub loop-top-smaller-then-table-top : goal.loop-top-smaller-then-table-top
+loop-top-smaller-then-table-top c =
     search falls_again
 
-pub loop-top-preserved-then-table-top-eq-AGAIN : goal.loop-top-preserved-then-table-top-eq-AGAIN
-loop-top-preserved-then-table-top-eq-AGAIN c =
+pub loop-top-preserved-then-table-top : goal.loop-top-preserved-then-table-top
+loop-top-preserved-then-table-top c =
     search sought_again
 
 pub loop-top-smaller : goal.loop-top-smaller

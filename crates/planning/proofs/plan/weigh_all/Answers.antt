@@ -1,4 +1,3 @@
-use borrow.Author.Rules.{rules}
 use native.Mathlib.Omega.{arith}
 use Rattle.planning.proofs.Scan.{weighing_none, weighing_more, weighing_fault, weighing_end}
 use Rattle.planning.proofs.plan.weigh_all.Goals as goal
@@ -7,20 +6,13 @@ pub loop-n-init : goal.loop-n-init
 loop-n-init c =
     search weighing_none
 
-pub weigh-w-requires : goal.weigh-w-requires
-weigh-w-requires c =
-    record {
-      used_value = c.used_words-used.ensures;
-      table_len = omega arith;
-    }
+pub loop-n-preserved : goal.loop-n-preserved
+loop-n-preserved c =
+    weighing_more c.loop-n.invariant (omega arith) c.in-Ok.ensures
 
 pub returns-in-Err : goal.returns-in-Err
 returns-in-Err c =
-    search weighing_fault
-
-pub loop-n-preserved : goal.loop-n-preserved
-loop-n-preserved c =
-    weighing_more c.loop-n.invariant (omega arith) c.weigh-w.ensures (search rules) c.put_row.ensures
+    weighing_fault c.loop-n.invariant (omega arith) c.in-Err.ensures
 
 pub returns : goal.returns
 returns c =

@@ -8,14 +8,6 @@ pub loop-c-init : goal.loop-c-init
 loop-c-init c =
     turn_none (sym c.all_lower.ensures ∙ c.in_ok-asks.ensures)
 
-pub overflow_mul-s : goal.overflow_mul-s
-overflow_mul-s c =
-    omega (arith, turn_lower c.loop-c.invariant c.loop-c-test.true)
-
-pub overflow_add-s : goal.overflow_add-s
-overflow_add-s c =
-    omega (arith, turn_lower c.loop-c.invariant c.loop-c-test.true)
-
 pub offset_bounds-plan-c : goal.offset_bounds-plan-c
 offset_bounds-plan-c c =
     omega (arith, turn_lower c.loop-c.invariant c.loop-c-test.true)

@@ -4,16 +4,6 @@ use native.Mathlib.Omega.{arith}
 use Rattle.grammar.specs.Named.{named}
 use Rattle.grammar.proofs.kinds.dep.steps.Goals as goal
 
-pub overflow_mul-result : goal.overflow_mul-result
-unfolding named
-overflow_mul-result c =
-    omega (arith, c.requires)
-
-pub overflow_add-result : goal.overflow_add-result
-unfolding named
-overflow_add-result c =
-    omega (arith, c.requires)
-
 pub offset_bounds-plan-a : goal.offset_bounds-plan-a
 unfolding named
 offset_bounds-plan-a c =
