@@ -1,6 +1,6 @@
 // The grammars of the workloads, by number.
 use super::draw::drawn;
-use grammar::kinds;
+use grammar::kind::Kind;
 
 pub const MOST_TABLE_WORDS: usize = 768;
 
@@ -50,9 +50,9 @@ pub struct Words<'a> {
 }
 
 impl<'a> Words<'a> {
-    fn put(&mut self, node: usize, kind: u64, a: usize, b: usize) {
+    fn put(&mut self, node: usize, kind: Kind, a: usize, b: usize) {
         if node < self.table.len() / 3 {
-            self.table[3 * node] = kind;
+            self.table[3 * node] = kind as u64;
             self.table[3 * node + 1] = a as u64;
             self.table[3 * node + 2] = b as u64;
         }
@@ -60,19 +60,19 @@ impl<'a> Words<'a> {
 
     // 01's L.
     fn numbers_list(&mut self) -> Shape {
-        self.put(0, kinds::BELOW, 1, 0);
-        self.put(1, kinds::NATS, 0, 0);
-        self.put(2, kinds::AGAIN, 5, 0);
-        self.put(3, kinds::CONS, 1, 2);
-        self.put(4, kinds::OR, 0, 3);
-        self.put(5, kinds::FIX, 4, 0);
+        self.put(0, Kind::Below, 1, 0);
+        self.put(1, Kind::Nats, 0, 0);
+        self.put(2, Kind::Again, 5, 0);
+        self.put(3, Kind::Cons, 1, 2);
+        self.put(4, Kind::Or, 0, 3);
+        self.put(5, Kind::Fix, 4, 0);
         Shape::endless(6, 5)
     }
 
     fn put_pairs(&mut self, levels: usize) {
-        self.put(0, kinds::NATS, 0, 0);
+        self.put(0, Kind::Nats, 0, 0);
         for i in 0..levels {
-            self.put(i + 1, kinds::CONS, i, i);
+            self.put(i + 1, Kind::Cons, i, i);
         }
     }
 
@@ -88,20 +88,20 @@ impl<'a> Words<'a> {
     // 32,768 + 16,384 + 8,192 + 2,048 nats.
     fn wide(&mut self) -> Shape {
         self.put_pairs(15);
-        self.put(16, kinds::CONS, 13, 11);
-        self.put(17, kinds::CONS, 14, 16);
-        self.put(18, kinds::CONS, 15, 17);
+        self.put(16, Kind::Cons, 13, 11);
+        self.put(17, Kind::Cons, 14, 16);
+        self.put(18, Kind::Cons, 15, 17);
         Shape::endless(19, 18)
     }
 
     // 256 seconds of four sizes.
     fn seconds(&mut self) -> Shape {
-        self.put(0, kinds::BELOW, 256, 0);
-        self.put(1, kinds::BELOW, 3, 0);
-        self.put(2, kinds::BELOW, 1000, 0);
-        self.put(3, kinds::BELOW, 1048576, 0);
-        self.put(4, kinds::BELOW, 7, 0);
-        self.put(5, kinds::DEP, 0, 0);
+        self.put(0, Kind::Below, 256, 0);
+        self.put(1, Kind::Below, 3, 0);
+        self.put(2, Kind::Below, 1000, 0);
+        self.put(3, Kind::Below, 1048576, 0);
+        self.put(4, Kind::Below, 7, 0);
+        self.put(5, Kind::Dep, 0, 0);
         for (i, word) in self.pool.iter_mut().take(256).enumerate() {
             *word = 1 + i as u64 % 4;
         }
@@ -119,7 +119,7 @@ impl<'a> Words<'a> {
             return Shape::endless(0, 0);
         }
         self.put_pairs(levels);
-        self.put(0, kinds::POOL, 0, count);
+        self.put(0, Kind::Pool, 0, count);
         for (i, word) in self.pool.iter_mut().take(count).enumerate() {
             *word = drawn(i as u64);
         }
@@ -133,12 +133,12 @@ impl<'a> Words<'a> {
 
     // Six nodes and no recursion.
     fn plain(&mut self) -> Shape {
-        self.put(0, kinds::BELOW, 10, 0);
-        self.put(1, kinds::NATS, 0, 0);
-        self.put(2, kinds::SHIFT, 1, 5);
-        self.put(3, kinds::OR, 0, 2);
-        self.put(4, kinds::CONS, 0, 3);
-        self.put(5, kinds::CONS, 4, 1);
+        self.put(0, Kind::Below, 10, 0);
+        self.put(1, Kind::Nats, 0, 0);
+        self.put(2, Kind::Shift, 1, 5);
+        self.put(3, Kind::Or, 0, 2);
+        self.put(4, Kind::Cons, 0, 3);
+        self.put(5, Kind::Cons, 4, 1);
         Shape::endless(6, 5)
     }
 
@@ -147,11 +147,11 @@ impl<'a> Words<'a> {
         if base < 1 || MOST_NODES - LIST_NODES < base {
             return;
         }
-        self.put(base, kinds::BELOW, 1, 0);
-        self.put(base + 1, kinds::AGAIN, base + 4, 0);
-        self.put(base + 2, kinds::CONS, base - 1, base + 1);
-        self.put(base + 3, kinds::OR, base, base + 2);
-        self.put(base + 4, kinds::FIX, base + 3, 0);
+        self.put(base, Kind::Below, 1, 0);
+        self.put(base + 1, Kind::Again, base + 4, 0);
+        self.put(base + 2, Kind::Cons, base - 1, base + 1);
+        self.put(base + 3, Kind::Or, base, base + 2);
+        self.put(base + 4, Kind::Fix, base + 3, 0);
     }
 
     // Lists of lists of lists.
@@ -159,7 +159,7 @@ impl<'a> Words<'a> {
         if MOST_LISTS < levels {
             return Shape::endless(0, 0);
         }
-        self.put(0, kinds::NATS, 0, 0);
+        self.put(0, Kind::Nats, 0, 0);
         for i in 0..levels {
             self.put_list(LIST_NODES * i + 1);
         }
@@ -168,12 +168,12 @@ impl<'a> Words<'a> {
 
     // 127 agains, each leading to the next by its fix: the longest search for cycles.
     fn agains(&mut self) -> Shape {
-        self.put(0, kinds::NATS, 0, 0);
+        self.put(0, Kind::Nats, 0, 0);
         for i in 0..127 {
-            self.put(i + 1, kinds::AGAIN, i + 128, 0);
-            self.put(i + 128, kinds::FIX, i + 2, 0);
+            self.put(i + 1, Kind::Again, i + 128, 0);
+            self.put(i + 128, Kind::Fix, i + 2, 0);
         }
-        self.put(254, kinds::FIX, 0, 0);
+        self.put(254, Kind::Fix, 0, 0);
         Shape::endless(255, 254)
     }
 
