@@ -18,9 +18,26 @@ use desk::Desk;
 use sizes::{MOST_POOL_WORDS, MOST_TABLE_WORDS};
 use texts::ascii::LF;
 use texts::page::Page;
+use texts::streams::STDIN_FILENO;
 
 // One byte more than the longest input, to see that an input is longer: it is unreadable as a whole.
 pub const INPUT_ROOM: usize = 4194305;
+
+// Answers standard input on standard output. It answers how many bytes wait then: none.
+pub fn run() -> usize
+    ensures { result ≡ 0 }
+{
+    let mut room = [0; INPUT_ROOM];
+    answer_input(&mut room)
+}
+
+// The room is lent, and not this function's own: of a local array a proof writes out every byte.
+fn answer_input(room: &mut [u8; INPUT_ROOM]) -> usize
+    ensures { result ≡ 0 }
+{
+    let size = io::read_full(STDIN_FILENO, room);
+    print_all(&room[..size])
+}
 
 // Prints all that an input asks for, on standard output. It answers how many bytes wait then: none.
 pub fn print_all(text: &[u8]) -> usize

@@ -1,5 +1,5 @@
 // The decimal number that starts at a place of a text.
-ghost use Rattle.std.specs.Prelude.{◌≡◌, ◌+◌, ◌*◌, length, drop, take_while};
+ghost use Rattle.std.specs.Prelude.{◌≡◌, ◌+◌, ◌*◌, length, take_while};
 ghost use Rattle.std.specs.Char.{is_ascii_digit};
 ghost use Rattle.texts.specs.Numeral.{run, value, worded, numeral_at};
 
@@ -16,25 +16,24 @@ pub struct Numeral {
 pub fn number_at(text: &[u8], at: usize) -> Option<Numeral>
     ensures { result ≡ numeral_at text.now at }
 {
-    let end = at + digits_at(text, at);
-    if end == at {
+    let rest = text.get(at..)?;
+    let size = digits_size(rest);
+    if size == 0 {
         return None;
     }
-    if text[at] == DIGIT_0 && at + 1 < end {
+    if rest[0] == DIGIT_0 && 1 < size {
         return None; // a leading zero
     }
-    let value = value_of(&text[at..end])?;
+    let value = value_of(&rest[..size])?;
+    let end = at + size;
     Some(Numeral { value, end })
 }
 
-// How many digits there are from `at` on.
-fn digits_at(text: &[u8], at: usize) -> usize
-    ensures { result ≡ length (take_while is_ascii_digit (drop at text.now)) }
+// How many digits a text starts with.
+fn digits_size(text: &[u8]) -> usize
+    ensures { result ≡ length (take_while is_ascii_digit text.now) }
 {
-    text.iter()
-        .skip(at)
-        .take_while(|byte| byte.is_ascii_digit())
-        .count()
+    text.iter().take_while(|byte| byte.is_ascii_digit()).count()
 }
 
 // The value of a run of digits, where it is a word.

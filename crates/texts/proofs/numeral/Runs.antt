@@ -1,14 +1,12 @@
 -- Runs of digits, as the code meets them.
 --   run_is                     the run is what the library takes while digits stand there
---   run_size, run_room         as many bytes of the text, and so few
 --   run_front, run_again       the run is the front of the text, and its own run
 -- Assumes nothing.
 use mathlib.Core.Path.{◌≡◌, refl, ap, ◌∙◌}
 use mathlib.Core.Bool.{cond}
 use mathlib.Core.List.{List, [], ◌∷◌, append-nil}
-use Prim.Native.Nat.{ℕ, ◌+◌, ◌≤◌, ◌<◌}
-use native.Mathlib.Omega.{arith}
-use lib.ListN.{length, take, drop, length-append, length-drop}
+use Prim.Native.Nat.{ℕ}
+use lib.ListN.{length, take, drop}
 use lib.Seq.{take-append_seam}
 use Rattle.std.specs.Char.{is_ascii_digit}
 use Rattle.std.specs.List.{take_while}
@@ -26,11 +24,3 @@ run_again bs = rw append-nil at (run_of (run bs) [] (run_digits bs) tt)
 
 pub run_front : (bs : List ℕ) → take (length (run bs)) bs ≡ run bs
 run_front bs = ap (take (length (run bs))) (run_split bs) ∙ take-append_seam (run bs) (drop (length (run bs)) bs)
-
--- ---- by how many digits there are from a place on
-module _ (text : List ℕ) (at : ℕ) {count : ℕ} (e : count ≡ length (take_while is_ascii_digit (drop at text))) where
-  pub run_size : count ≡ length (run (drop at text))
-  run_size = e ∙ ap length (run_is (drop at text))
-
-  pub run_room : 0 < count → at + count ≤ length text
-  run_room h = omega (arith, run_size, ap length (run_split (drop at text)), length-append (run (drop at text)) (drop (length (run (drop at text))) (drop at text)), length-drop at text)
