@@ -1,6 +1,6 @@
 // The grammars of the workloads, by number.
 use super::draw::drawn;
-use grammar::kinds;
+use grammar::kind::Kind;
 
 pub const MOST_TABLE_WORDS: usize = 768;
 
@@ -23,11 +23,11 @@ pub struct Shape {
     pub limit: u64,
 }
 
-fn put(table: &mut [u64; MOST_TABLE_WORDS], node: usize, kind: u64, a: usize, b: usize) {
+fn put(table: &mut [u64; MOST_TABLE_WORDS], node: usize, kind: Kind, a: usize, b: usize) {
     if MOST_NODES <= node {
         return;
     }
-    table[3 * node] = kind;
+    table[3 * node] = kind as u64;
     table[3 * node + 1] = a as u64;
     table[3 * node + 2] = b as u64;
 }
@@ -51,19 +51,19 @@ fn endless(nodes: usize, start: usize) -> Shape {
 
 // 01's L.
 fn numbers_list(table: &mut [u64; MOST_TABLE_WORDS]) -> Shape {
-    put(table, 0, kinds::BELOW, 1, 0);
-    put(table, 1, kinds::NATS, 0, 0);
-    put(table, 2, kinds::AGAIN, 5, 0);
-    put(table, 3, kinds::CONS, 1, 2);
-    put(table, 4, kinds::OR, 0, 3);
-    put(table, 5, kinds::FIX, 4, 0);
+    put(table, 0, Kind::Below, 1, 0);
+    put(table, 1, Kind::Nats, 0, 0);
+    put(table, 2, Kind::Again, 5, 0);
+    put(table, 3, Kind::Cons, 1, 2);
+    put(table, 4, Kind::Or, 0, 3);
+    put(table, 5, Kind::Fix, 4, 0);
     endless(6, 5)
 }
 
 fn put_pairs(table: &mut [u64; MOST_TABLE_WORDS], levels: usize) {
-    put(table, 0, kinds::NATS, 0, 0);
+    put(table, 0, Kind::Nats, 0, 0);
     for i in 0..levels {
-        put(table, i + 1, kinds::CONS, i, i);
+        put(table, i + 1, Kind::Cons, i, i);
     }
 }
 
@@ -89,20 +89,20 @@ fn at_zero(shape: Shape) -> Shape {
 // 32,768 + 16,384 + 8,192 + 2,048 nats.
 fn wide(table: &mut [u64; MOST_TABLE_WORDS]) -> Shape {
     put_pairs(table, 15);
-    put(table, 16, kinds::CONS, 13, 11);
-    put(table, 17, kinds::CONS, 14, 16);
-    put(table, 18, kinds::CONS, 15, 17);
+    put(table, 16, Kind::Cons, 13, 11);
+    put(table, 17, Kind::Cons, 14, 16);
+    put(table, 18, Kind::Cons, 15, 17);
     endless(19, 18)
 }
 
 // 256 seconds of four sizes.
 fn seconds(table: &mut [u64; MOST_TABLE_WORDS], pool: &mut [u64; MOST_POOL_WORDS]) -> Shape {
-    put(table, 0, kinds::BELOW, 256, 0);
-    put(table, 1, kinds::BELOW, 3, 0);
-    put(table, 2, kinds::BELOW, 1000, 0);
-    put(table, 3, kinds::BELOW, 1048576, 0);
-    put(table, 4, kinds::BELOW, 7, 0);
-    put(table, 5, kinds::DEP, 0, 0);
+    put(table, 0, Kind::Below, 256, 0);
+    put(table, 1, Kind::Below, 3, 0);
+    put(table, 2, Kind::Below, 1000, 0);
+    put(table, 3, Kind::Below, 1048576, 0);
+    put(table, 4, Kind::Below, 7, 0);
+    put(table, 5, Kind::Dep, 0, 0);
     for i in 0..256usize {
         put_word(pool, i, (1 + i % 4) as u64);
     }
@@ -131,7 +131,7 @@ fn words_of(
         return endless(0, 0);
     }
     put_pairs(table, levels);
-    put(table, 0, kinds::POOL, 0, count);
+    put(table, 0, Kind::Pool, 0, count);
     put_words(pool, count);
     Shape {
         nodes: levels + 1,
@@ -143,12 +143,12 @@ fn words_of(
 
 // Six nodes and no recursion.
 fn plain(table: &mut [u64; MOST_TABLE_WORDS]) -> Shape {
-    put(table, 0, kinds::BELOW, 10, 0);
-    put(table, 1, kinds::NATS, 0, 0);
-    put(table, 2, kinds::SHIFT, 1, 5);
-    put(table, 3, kinds::OR, 0, 2);
-    put(table, 4, kinds::CONS, 0, 3);
-    put(table, 5, kinds::CONS, 4, 1);
+    put(table, 0, Kind::Below, 10, 0);
+    put(table, 1, Kind::Nats, 0, 0);
+    put(table, 2, Kind::Shift, 1, 5);
+    put(table, 3, Kind::Or, 0, 2);
+    put(table, 4, Kind::Cons, 0, 3);
+    put(table, 5, Kind::Cons, 4, 1);
     endless(6, 5)
 }
 
@@ -158,15 +158,15 @@ fn put_list(table: &mut [u64; MOST_TABLE_WORDS], level: usize) {
         return;
     }
     let base = 5 * level + 1;
-    put(table, base, kinds::BELOW, 1, 0);
-    put(table, base + 1, kinds::AGAIN, base + 4, 0);
-    put(table, base + 2, kinds::CONS, base - 1, base + 1);
-    put(table, base + 3, kinds::OR, base, base + 2);
-    put(table, base + 4, kinds::FIX, base + 3, 0);
+    put(table, base, Kind::Below, 1, 0);
+    put(table, base + 1, Kind::Again, base + 4, 0);
+    put(table, base + 2, Kind::Cons, base - 1, base + 1);
+    put(table, base + 3, Kind::Or, base, base + 2);
+    put(table, base + 4, Kind::Fix, base + 3, 0);
 }
 
 fn put_lists(table: &mut [u64; MOST_TABLE_WORDS], levels: usize) {
-    put(table, 0, kinds::NATS, 0, 0);
+    put(table, 0, Kind::Nats, 0, 0);
     for i in 0..levels {
         put_list(table, i);
     }
@@ -183,12 +183,12 @@ fn lists(table: &mut [u64; MOST_TABLE_WORDS], levels: usize) -> Shape {
 
 // 127 agains, each leading to the next by its fix: the longest search for cycles.
 fn agains(table: &mut [u64; MOST_TABLE_WORDS]) -> Shape {
-    put(table, 0, kinds::NATS, 0, 0);
+    put(table, 0, Kind::Nats, 0, 0);
     for i in 0..127usize {
-        put(table, i + 1, kinds::AGAIN, i + 128, 0);
-        put(table, i + 128, kinds::FIX, i + 2, 0);
+        put(table, i + 1, Kind::Again, i + 128, 0);
+        put(table, i + 128, Kind::Fix, i + 2, 0);
     }
-    put(table, 254, kinds::FIX, 0, 0);
+    put(table, 254, Kind::Fix, 0, 0);
     endless(255, 254)
 }
 
