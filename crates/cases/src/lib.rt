@@ -8,6 +8,7 @@ ghost use Rattle.std.specs.Prelude.{◌≡◌};
 ghost use Rattle.grammar.specs.Verdict.{answer, check_says};
 
 use checked::prepared::{PLAN, SMALL, SMALL_PLAN, prepare};
+use grammar::entry::BLANK;
 pub use grammar::refusal::{Refusal, Refused, number_of};
 pub use reading::read;
 pub use writing::write;
@@ -17,9 +18,9 @@ pub fn check(table: &[u64], pool: &[u64]) -> Result<(), Refused>
     ensures { answer result ≡ check_says table.now pool.now }
 {
     if table.len() <= SMALL {
-        let mut plan = [0u64; SMALL_PLAN];
+        let mut plan = [BLANK; SMALL_PLAN];
         return prepare(table, pool, &mut plan);
     }
-    let mut plan = [0u64; PLAN];
+    let mut plan = [BLANK; PLAN];
     prepare(table, pool, &mut plan)
 }

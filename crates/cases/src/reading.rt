@@ -6,13 +6,14 @@ ghost use Rattle.cases.specs.Read.{read_of, read_says};
 use checked::item::read_case;
 use checked::opened::begin;
 use checked::prepared::{PLAN, SMALL, SMALL_PLAN};
+use grammar::entry::{BLANK, Entry};
 use grammar::refusal::Refused;
 
 // The call over a lent plan.
 fn read_with(
     table: &[u64],
     pool: &[u64],
-    plan: &mut [u64],
+    plan: &mut [Entry],
     start: usize,
     cells: &[u64],
 ) -> Result<u64, Refused>
@@ -29,9 +30,9 @@ pub fn read(table: &[u64], pool: &[u64], start: usize, cells: &[u64]) -> Result<
     ensures { read_of result ≡ read_says table.now pool.now start cells.now }
 {
     if table.len() <= SMALL {
-        let mut plan = [0u64; SMALL_PLAN];
+        let mut plan = [BLANK; SMALL_PLAN];
         return read_with(table, pool, &mut plan, start, cells);
     }
-    let mut plan = [0u64; PLAN];
+    let mut plan = [BLANK; PLAN];
     read_with(table, pool, &mut plan, start, cells)
 }

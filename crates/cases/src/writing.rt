@@ -5,13 +5,14 @@ ghost use Rattle.cases.specs.Write.{Wrote};
 use checked::case::write_case;
 use checked::opened::begin;
 use checked::prepared::{PLAN, SMALL, SMALL_PLAN};
+use grammar::entry::{BLANK, Entry};
 use grammar::refusal::Refused;
 
 // The call over a lent plan.
 fn write_with(
     table: &[u64],
     pool: &[u64],
-    plan: &mut [u64],
+    plan: &mut [Entry],
     start: usize,
     number: u64,
     cells: &mut [u64],
@@ -35,9 +36,9 @@ pub fn write(
     ensures { Wrote table.now pool.now start number cells.old cells.new result }
 {
     if table.len() <= SMALL {
-        let mut plan = [0u64; SMALL_PLAN];
+        let mut plan = [BLANK; SMALL_PLAN];
         return write_with(table, pool, &mut plan, start, number, cells);
     }
-    let mut plan = [0u64; PLAN];
+    let mut plan = [BLANK; PLAN];
     write_with(table, pool, &mut plan, start, number, cells)
 }

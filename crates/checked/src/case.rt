@@ -5,6 +5,7 @@ ghost use Rattle.checked.specs.Fits.{Placed};
 
 use super::decided::decided;
 use super::fits::{fits, room_for};
+use grammar::entry::Entry;
 use grammar::refusal::Refusal;
 use laying::sure::sure;
 
@@ -12,7 +13,7 @@ use laying::sure::sure;
 // to decide.
 pub fn write_case<'a>(
     pool: &'a [u64],
-    plan: &'a [u64],
+    plan: &'a [Entry],
     start: usize,
     number: u64,
     cells: &mut [u64],

@@ -5,6 +5,7 @@ ghost use Rattle.walk.specs.Plan.{Reading};
 ghost use Rattle.checked.specs.Fits.{fitted};
 
 use super::fits::{DEPTH, asked, fit_of, room_for};
+use grammar::entry::Entry;
 use grammar::refusal::Refusal;
 use laying::tally::tally;
 use walk::lent::Lent;
@@ -12,7 +13,7 @@ use walk::lent::Lent;
 // "12, then the walk with the room left"
 pub fn decided<'a>(
     pool: &'a [u64],
-    plan: &'a [u64],
+    plan: &'a [Entry],
     start: usize,
     number: u64,
     room: usize,
@@ -20,7 +21,7 @@ pub fn decided<'a>(
     requires { Reading plan.now pool.now start }
     ensures { result ≡ fitted (rule_in plan.now pool.now) start number room }
 {
-    if asked(plan[4 * start + 3], number) {
+    if asked(plan[start].size, number) {
         let most = room_for(room);
         let lent = Lent { pool, plan };
         return fit_of(most, tally(&lent, start, number, DEPTH, most));

@@ -7,6 +7,7 @@ ghost use Rattle.walk.specs.Plan.{Reading};
 ghost use Rattle.checked.specs.Fits.{room_for, outcome, FitOver};
 ghost use Rattle.checked.specs.Fits.{asked as is_asked};
 
+use grammar::entry::Entry;
 use grammar::refusal::Refusal;
 use laying::lay::lay;
 use laying::rest::Rest;
@@ -46,7 +47,7 @@ pub fn fit_of(most: usize, rest: Rest) -> Result<usize, Refusal>
 // It decides as the first pass does by the buffer's length, and writes what fits.
 pub fn fits<'a>(
     pool: &'a [u64],
-    plan: &'a [u64],
+    plan: &'a [Entry],
     start: usize,
     number: u64,
     out: &mut [u64],
@@ -54,7 +55,7 @@ pub fn fits<'a>(
     requires { Reading plan.now pool.now start }
     ensures { FitOver (rule_in plan.now pool.now) start number out.old out.new result }
 {
-    if asked(plan[4 * start + 3], number) {
+    if asked(plan[start].size, number) {
         let most = room_for(out.len());
         let lent = Lent { pool, plan };
         let rest = lay(&lent, start, number, 0, DEPTH, &mut out[..most]);

@@ -1,15 +1,15 @@
 // One case at the front of cells, on a checked table: "the walk, then 16".
 ghost use Rattle.std.specs.Prelude.{◌≡◌, ◌≤◌, length, drop};
 ghost use Rattle.grammar.specs.Plan.{rule_in};
-ghost use Rattle.taking.specs.Took.{why_of};
+ghost use Rattle.taking.specs.Number.{why};
 ghost use Rattle.walk.specs.Plan.{Reading};
 ghost use Rattle.checked.specs.Item.{front, whole, standing, Stood};
 
 use super::fits::{DEPTH, MOST_CELLS, room_for};
+use grammar::entry::Entry;
 use grammar::refusal::Refusal;
-use numbers::joined::BIG;
 use numbers::size::LARGEST;
-use taking::own::{DEEP, UNFIT};
+use taking::number::Unread;
 use taking::take::take;
 use walk::lent::Lent;
 
@@ -21,26 +21,27 @@ pub struct Item {
 }
 
 // Why the walk read nothing: where the cells end, it is 14 if the case may have no more of them, else 15.
-fn why(word: u64, full: bool) -> Refusal
-    ensures { result ≡ why_of full word }
+fn why(unread: Unread, full: bool) -> Refusal
+    ensures { result ≡ why unread full }
 {
-    if word == DEEP {
-        return Refusal::TooDeep;
+    match unread {
+        Unread::TooDeep => Refusal::TooDeep,
+        Unread::NotACase => Refusal::NotACase,
+        Unread::RowEnds => {
+            if full {
+                Refusal::NoRoom
+            } else {
+                Refusal::NotACase
+            }
+        }
     }
-    if word == UNFIT {
-        return Refusal::NotACase;
-    }
-    if full {
-        return Refusal::NoRoom;
-    }
-    Refusal::NotACase
 }
 
 // The case that starts at a place: "The limit of 65,536 counts from the item's first cell". "Then cells
 // left over (15, whole-case reading only), then 16."
 fn case_at<'a>(
     pool: &'a [u64],
-    plan: &'a [u64],
+    plan: &'a [Entry],
     start: usize,
     cells: &[u64],
     at: usize,
@@ -54,26 +55,24 @@ fn case_at<'a>(
     let row = &cells[at..at + few];
     let mut used: usize = 0;
     let lent = Lent { pool, plan };
-    let word = take(&lent, start, &row, DEPTH, 0, &mut used);
-    if BIG < word {
-        return Err(why(word, MOST_CELLS <= left));
-    }
+    let read = take(&lent, start, &row, DEPTH, 0, &mut used);
+    let number = read.result().map_err(|unread| why(unread, MOST_CELLS <= left))?;
     let next = at + used;
     if whole {
         if next < cells.len() {
             return Err(Refusal::NotACase);
         }
     }
-    if LARGEST <= word {
-        return Err(Refusal::NumberTooLarge);
+    match number {
+        Some(number) if number < LARGEST => Ok(Item { number, next }),
+        _ => Err(Refusal::NumberTooLarge),
     }
-    Ok(Item { number: word, next })
 }
 
 // The case at a place, whatever stands behind it.
 pub fn item_at<'a>(
     pool: &'a [u64],
-    plan: &'a [u64],
+    plan: &'a [Entry],
     start: usize,
     cells: &[u64],
     at: usize,
@@ -87,7 +86,7 @@ pub fn item_at<'a>(
 // All cells are one case.
 pub fn read_case<'a>(
     pool: &'a [u64],
-    plan: &'a [u64],
+    plan: &'a [Entry],
     start: usize,
     cells: &[u64],
 ) -> Result<Item, Refusal>

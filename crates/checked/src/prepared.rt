@@ -3,6 +3,7 @@ ghost use Rattle.std.specs.Prelude.{◌≡◌};
 ghost use Rattle.grammar.specs.Table.{lengths};
 ghost use Rattle.checked.specs.Prepared.{Blank, Prepared};
 
+use grammar::entry::Entry;
 use grammar::refusal::{Refusal, Refused};
 use planning::plan::weigh_all;
 
@@ -10,13 +11,13 @@ const MOST_NODES: usize = 256;
 
 const MOST_WORDS: usize = 4096;
 
-// The words of a table of 16 nodes: up to here a call takes a plan of 16 rows, else one of 256, four words
-// a row. A small table does not pay for the largest.
+// The words of a table of 16 nodes: up to here a call takes a plan of 16 entries, else one of 256. A small
+// table does not pay for the largest.
 pub const SMALL: usize = 48;
 
-pub const SMALL_PLAN: usize = 64;
+pub const SMALL_PLAN: usize = 16;
 
-pub const PLAN: usize = 1024;
+pub const PLAN: usize = 256;
 
 // "word and pool lengths"
 fn lengths_fit(table: &[u64], pool: &[u64]) -> bool
@@ -27,7 +28,7 @@ fn lengths_fit(table: &[u64], pool: &[u64]) -> bool
 }
 
 // "The whole check: word and pool lengths (1, node 0); then nodes rising ..; then cycles."
-pub fn prepare(table: &[u64], pool: &[u64], plan: &mut [u64]) -> Result<(), Refused>
+pub fn prepare(table: &[u64], pool: &[u64], plan: &mut [Entry]) -> Result<(), Refused>
     requires { Blank table.now plan.old }
     ensures { Prepared table.now pool.now plan.new result }
 {

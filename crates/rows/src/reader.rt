@@ -8,6 +8,7 @@ ghost use Rattle.rows.specs.Reader.{next_of, stride_of, Strode, Moved};
 use checked::item::item_at;
 use checked::opened::begin;
 use checked::prepared::{PLAN, SMALL, SMALL_PLAN};
+use grammar::entry::{BLANK, Entry};
 use grammar::refusal::Refused;
 
 // What a reader hands out: a number and the count of its cells.
@@ -28,7 +29,7 @@ pub struct Stride {
 fn next_with(
     table: &[u64],
     pool: &[u64],
-    plan: &mut [u64],
+    plan: &mut [Entry],
     start: usize,
     row: &[u64],
     at: usize,
@@ -52,7 +53,7 @@ fn next_with(
 fn stride_with(
     table: &[u64],
     pool: &[u64],
-    plan: &mut [u64],
+    plan: &mut [Entry],
     start: usize,
     row: &[u64],
     at: usize,
@@ -73,10 +74,10 @@ fn stride_at(table: &[u64], pool: &[u64], start: usize, row: &[u64], at: usize) 
     ensures { result ≡ stride_of table.now pool.now start row.now at }
 {
     if table.len() <= SMALL {
-        let mut plan = [0u64; SMALL_PLAN];
+        let mut plan = [BLANK; SMALL_PLAN];
         return stride_with(table, pool, &mut plan, start, row, at);
     }
-    let mut plan = [0u64; PLAN];
+    let mut plan = [BLANK; PLAN];
     stride_with(table, pool, &mut plan, start, row, at)
 }
 

@@ -10,6 +10,7 @@ use checked::copy::copy;
 use checked::item::item_at;
 use checked::opened::begin;
 use checked::prepared::{PLAN, SMALL, SMALL_PLAN};
+use grammar::entry::{BLANK, Entry};
 use grammar::refusal::Refusal;
 
 // The room for numbers of a call's own. A row has no more items than cells: a row of up to 64 cells takes
@@ -31,7 +32,7 @@ fn keep(n: u64, items: usize, out: &mut [u64])
 // of the numbers as the lent buffer holds.
 fn gather_row<'a>(
     pool: &'a [u64],
-    plan: &'a [u64],
+    plan: &'a [Entry],
     start: usize,
     cells: &[u64],
     room: usize,
@@ -58,7 +59,7 @@ fn gather_row<'a>(
 // known to be readable: the numbers that it has kept, or else they are read again, over the buffer itself.
 fn read_items<'a>(
     pool: &'a [u64],
-    plan: &'a [u64],
+    plan: &'a [Entry],
     start: usize,
     cells: &[u64],
     scratch: &mut [u64],
@@ -79,7 +80,7 @@ fn read_items<'a>(
 fn read_row_with(
     table: &[u64],
     pool: &[u64],
-    plan: &mut [u64],
+    plan: &mut [Entry],
     start: usize,
     cells: &[u64],
     numbers: &mut [u64],
@@ -107,9 +108,9 @@ pub fn read_row(
     ensures { GotRow table.now pool.now start cells.now numbers.old numbers.new result }
 {
     if table.len() <= SMALL {
-        let mut plan = [0u64; SMALL_PLAN];
+        let mut plan = [BLANK; SMALL_PLAN];
         return read_row_with(table, pool, &mut plan, start, cells, numbers);
     }
-    let mut plan = [0u64; PLAN];
+    let mut plan = [BLANK; PLAN];
     read_row_with(table, pool, &mut plan, start, cells, numbers)
 }

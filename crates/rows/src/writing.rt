@@ -10,12 +10,13 @@ use checked::decided::decided;
 use checked::fits::fits;
 use checked::opened::begin;
 use checked::prepared::{PLAN, SMALL, SMALL_PLAN};
+use grammar::entry::{BLANK, Entry};
 
 // "items in order; the first that is refused stops the call": the first pass decides, and is lent no cell
 // that it could write.
 fn decide_row<'a>(
     pool: &'a [u64],
-    plan: &'a [u64],
+    plan: &'a [Entry],
     start: usize,
     numbers: &[u64],
     room: usize,
@@ -39,7 +40,7 @@ fn decide_row<'a>(
 // The second pass writes each case into what the ones before it leave of the buffer.
 fn lay_row<'a>(
     pool: &'a [u64],
-    plan: &'a [u64],
+    plan: &'a [Entry],
     start: usize,
     numbers: &[u64],
     cells: &mut [u64],
@@ -61,7 +62,7 @@ fn lay_row<'a>(
 fn write_row_with(
     table: &[u64],
     pool: &[u64],
-    plan: &mut [u64],
+    plan: &mut [Entry],
     start: usize,
     numbers: &[u64],
     cells: &mut [u64],
@@ -85,9 +86,9 @@ pub fn write_row(
     ensures { WroteRow table.now pool.now start numbers.now cells.old cells.new result }
 {
     if table.len() <= SMALL {
-        let mut plan = [0u64; SMALL_PLAN];
+        let mut plan = [BLANK; SMALL_PLAN];
         return write_row_with(table, pool, &mut plan, start, numbers, cells);
     }
-    let mut plan = [0u64; PLAN];
+    let mut plan = [BLANK; PLAN];
     write_row_with(table, pool, &mut plan, start, numbers, cells)
 }

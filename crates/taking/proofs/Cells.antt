@@ -22,8 +22,9 @@ use Rattle.numbers.proofs.Tests.{pick_by}
 use Rattle.grammar.specs.declared.refusal.Refusal.TheVariants.{NoRoom, NotACase}
 use Rattle.walk.specs.Run.{Read, read, wrong, then, fit, cell_of}
 use Rattle.taking.specs.Took.{why_of, Took, exact, large, stops, Taken, Celled}
-use Rattle.taking.specs.declared.own.Cell.{Cell}
-use Rattle.taking.specs.declared.own.Cell.TheVariants.{Of, Stops}
+use Rattle.std.specs.Prelude.{Result, Ok, Err}
+use Rattle.taking.specs.declared.number.Unread.{Unread}
+use Rattle.taking.specs.Number.{unread}
 
 -- ---- what a word says that is no refusal: the number m, which is the word itself below 2^63
 pub record Seen (least : ℕ) (w : Read) (cells : List ℕ) (stop k r : ℕ) : Type 0 where
@@ -37,7 +38,7 @@ seen {r = r} (exact l e) h = record { m = r; is = e; same = λ q. refl; above = 
 seen (large e m l f) h = record { m = m; is = f; same = λ q. absurd (omega arith); above = λ q. l }
 seen (stops l e) h = absurd (omega arith)
 
-refused : {least : ℕ} {w : Read} {cells : List ℕ} {stop k r : ℕ} → Took least w cells stop k r → 2 ^ 63 < r → w ≡ wrong (why_of (leb stop (length cells)) r)
+pub refused : {least : ℕ} {w : Read} {cells : List ℕ} {stop k r : ℕ} → Took least w cells stop k r → 2 ^ 63 < r → w ≡ wrong (why_of (leb stop (length cells)) r)
 refused (exact l e) h = absurd (omega arith)
 refused (large e m l f) h = absurd (omega arith)
 refused (stops l e) h = e
@@ -115,38 +116,33 @@ module _ (off : ℕ) (row : List ℕ) (at : ℕ) (f : ℕ → ℕ → List ℕ �
     }
 
 -- what the next cell shows
-abbrev Shows : ℕ → List ℕ → ℕ → Cell → Type 0
-Shows off row at (Of c) = (at < length row) × (off ≤ get_or row at 0) × (c ≡ get_or row at 0 - off)
-Shows off row at (Stops w) =
-    (2 ^ 63 < w) × (at ≤ length row → (f : ℕ → ℕ → List ℕ → Read) (l next : ℕ) → Taken l (λ q cs. cell_of off q cs f) row at next w)
+abbrev Shows : ℕ → List ℕ → ℕ → Result ℕ Unread → Type 0
+Shows off row at (Ok c) = (at < length row) × (off ≤ get_or row at 0) × (c ≡ get_or row at 0 - off)
+Shows off row at (Err u) = at ≤ length row → (f : ℕ → ℕ → List ℕ → Read) (l next : ℕ) → Taken l (λ q cs. cell_of off q cs f) row at next (unread u)
 
-shows : {off : ℕ} {row : List ℕ} {at : ℕ} {r : Cell} → Celled off row at r → Shows off row at r
-shows {off} {row} {at} e =
-    subst (Shows off row at) (sym e.is)
-    (pick_by (Shows off row at) (leb (length row) at) (λ t. (omega arith, λ i f l next. cell_ends off row at f i (leb-true (length row) at t)))
-    (λ t.
-    let l = leb-false (length row) at t in
-    pick_by (Shows off row at) (ltb (get_or row at 0) off) (λ u. (omega arith, λ i f m next. cell_less off row at f l (ltb-true (get_or row at 0) off u)))
-    (λ u. (l, ltb-false (get_or row at 0) off u, refl))))
+module _ {off : ℕ} {row : List ℕ} {at : ℕ} {r : Result ℕ Unread} (e : Celled off row at r) where
+  shows : Shows off row at r
+  shows =
+      subst (Shows off row at) (sym e.is)
+      (pick_by (Shows off row at) (leb (length row) at) (λ t i f l next. cell_ends off row at f i (leb-true (length row) at t))
+      (λ t.
+      let l = leb-false (length row) at t in
+      pick_by (Shows off row at) (ltb (get_or row at 0) off) (λ u i f m next. cell_less off row at f l (ltb-true (get_or row at 0) off u))
+      (λ u. (l, ltb-false (get_or row at 0) off u, refl))))
 
-module _ {off : ℕ} {row : List ℕ} {at : ℕ} {r : Cell} (e : Celled off row at r) where
-  shown : (s : Cell) → r ≡ s → Shows off row at s
-  shown s q = subst (Shows off row at) q (shows e)
+  pub cell_stops : {u : Unread} → r ≡ Err u → at ≤ length row → (f : ℕ → ℕ → List ℕ → Read) {l next : ℕ}
+      → Taken l (λ q cs. cell_of off q cs f) row at next (unread u)
+  cell_stops q i f {l} {next} = (subst (Shows off row at) q shows) i f l next
 
-  pub cell_over : {w : ℕ} → r ≡ Stops w → 2 ^ 63 < w
-  cell_over {w} q = (shown (Stops w) q).0
+  module _ {c : ℕ} (q : r ≡ Ok c) where
+    found : Shows off row at (Ok c)
+    found = subst (Shows off row at) q shows
 
-  pub cell_stops : {w : ℕ} → r ≡ Stops w → at ≤ length row → (f : ℕ → ℕ → List ℕ → Read) {l next : ℕ} → Taken l (λ q cs. cell_of off q cs f) row at next w
-  cell_stops {w} q i f {l} {next} = (shown (Stops w) q).1 i f l next
+    pub cell_in : at < length row
+    cell_in = found.0
 
-  pub cell_in : {c : ℕ} → r ≡ Of c → at < length row
-  cell_in {c} q = (shown (Of c) q).0
-
-  pub cell_of_lem : {c : ℕ} → r ≡ Of c → (f : ℕ → ℕ → List ℕ → Read) {l next w : ℕ} → Taken l (f c) row (at + 1) next w
-      → Taken l (λ q cs. cell_of off q cs f) row at next w
-  cell_of_lem {c} q f {l} {next} {w} t =
-      let h = shown (Of c) q in
-      cell_found off row at f h.0 h.1 (subst (λ (x : ℕ). Taken l (f x) row (at + 1) next w) h.2 t)
+    pub cell_of_lem : (f : ℕ → ℕ → List ℕ → Read) {l next w : ℕ} → Taken l (f c) row (at + 1) next w → Taken l (λ q cs. cell_of off q cs f) row at next w
+    cell_of_lem f {l} {next} {w} t = cell_found off row at f found.0 found.1 (subst (λ (x : ℕ). Taken l (f x) row (at + 1) next w) found.2 t)
 
 pub cell_then : (off q : ℕ) (cs : List ℕ) (f : ℕ → ℕ → List ℕ → Read) → cell_of off q cs f ≡ then (cell_of off q cs (λ c. read c)) f
 unfolding cell_of

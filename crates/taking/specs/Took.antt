@@ -4,11 +4,10 @@
 --   Taken     of a row that is the front of the cells, whatever cells and stop: 14 and 15 are told apart by them alone
 --   TakenBy   what a visit of a kind reads, with words a and b, where its parts have a depth left
 --   Celled    the next cell of a row
---   Passed    what is made of the number that a cell stands for
 --   TakenOwn  what a visit reads of a cell of its own
 --   Roomy     what every reading visit is given
 -- Assumes nothing.
-use Rattle.std.specs.Prelude.{◌≡◌, Bool, List, ℕ, ◌+◌, ◌*◌, ◌-◌, ◌^◌, ◌≤◌, ◌<◌, eqb, ltb, leb, length, get_or, take, drop}
+use Rattle.std.specs.Prelude.{◌≡◌, Bool, List, ℕ, ◌+◌, ◌*◌, ◌-◌, ◌^◌, ◌≤◌, ◌<◌, eqb, ltb, leb, length, get_or, take, drop, Result, Ok, Err}
 use Rattle.numbers.specs.Pick.{pick}
 use Rattle.numbers.specs.Joined.{limit}
 use Rattle.grammar.specs.declared.entry.Entry.{Entry}
@@ -16,12 +15,10 @@ use Rattle.grammar.specs.declared.refusal.Refusal.{Refusal}
 use Rattle.grammar.specs.declared.refusal.Refusal.TheVariants.{TooDeep, NoRoom, NotACase}
 use Rattle.grammar.specs.Rule.{Tree}
 use Rattle.grammar.specs.Kind.{Kind}
-use Rattle.grammar.specs.declared.kinds.Place.{Place}
-use Rattle.grammar.specs.declared.kinds.Place.TheVariants.{At, Nowhere}
 use Rattle.grammar.specs.Plan.{size_in, rule_in}
+use Rattle.taking.specs.declared.number.Unread.{Unread}
+use Rattle.taking.specs.declared.number.Unread.TheVariants.{RowEnds, NotACase as Unfit}
 use Rattle.walk.specs.Run.{Read, read, wrong, follow, run}
-use Rattle.taking.specs.declared.own.Cell.{Cell}
-use Rattle.taking.specs.declared.own.Cell.TheVariants.{Of, Stops}
 
 abbrev pub why_of : Bool → ℕ → Refusal
 why_of full r = pick (eqb r (2 ^ 63 + 1)) TooDeep (pick (eqb r (2 ^ 63 + 2)) NotACase (pick full NoRoom NotACase))
@@ -41,16 +38,8 @@ TakenBy k plan p a b left off row at next r =
     Taken (2 ^ 62 + (200 - left)) (follow (run (rule_in plan p) left) off (k.rule a b p (size_in plan)).tree) row at next r
 
 -- "15: the cells run out", or 14; "a cell less than k under a shift"
-pub record Celled (off : ℕ) (row : List ℕ) (at : ℕ) (r : Cell) : Type 0 where
-  pub is : r ≡ pick (leb (length row) at) (Stops (2 ^ 63 + 3)) (pick (ltb (get_or row at 0) off) (Stops (2 ^ 63 + 2)) (Of (get_or row at 0 - off)))
-
--- a cell that stands for number m is gone past; of another the word is 15's
-abbrev pub PassedAt : Place → ℕ → ℕ → ℕ → Type 0
-PassedAt (At m) at next r = (next ≡ at + 1) × (r ≡ m)
-PassedAt Nowhere at next r = r ≡ 2 ^ 63 + 2
-
-pub record Passed (s : Place) (at next r : ℕ) : Type 0 where
-  pub is : PassedAt s at next r
+pub record Celled (off : ℕ) (row : List ℕ) (at : ℕ) (r : Result ℕ Unread) : Type 0 where
+  pub is : r ≡ pick (leb (length row) at) (Err RowEnds) (pick (ltb (get_or row at 0) off) (Err Unfit) (Ok (get_or row at 0 - off)))
 
 -- what a visit that takes a cell of its own reads by a tree, whatever its parts are
 abbrev pub TakenOwn : Tree → ℕ → List ℕ → ℕ → ℕ → ℕ → Type 0

@@ -1,5 +1,6 @@
 // The walk that reads, over a plan: from cells to a number.
 #![tactic(auto)]
 
+pub mod number;
 pub mod own;
 pub mod take;

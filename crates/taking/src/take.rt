@@ -7,14 +7,15 @@ ghost use Rattle.grammar.specs.kinds.Dep.{dep as dep_kind};
 ghost use Rattle.grammar.specs.kinds.Except.{except as except_kind};
 ghost use Rattle.walk.specs.Run.{run};
 ghost use Rattle.walk.specs.Plan.{Reading, Choosing};
+ghost use Rattle.taking.specs.Number.{word};
 ghost use Rattle.taking.specs.Took.{Taken, TakenBy, Roomy};
 ghost use Rattle.walk.specs.Lent.{pool_of, plan_of};
 
-use super::own::{DEEP, UNFIT, any, counted, listed};
+use super::number::{Number, Unread};
+use super::own::{any, counted, listed};
 use grammar::entry::Entry;
 use grammar::kind::Kind;
 use grammar::kinds::{cons, dep, except, or};
-use numbers::joined::BIG;
 use walk::lent::Lent;
 
 // An or's tags, 0 and 1.
@@ -30,47 +31,48 @@ fn tagged(
     left: usize,
     off: u64,
     at: &mut usize,
-) -> u64
+) -> Result<Option<u64>, Unread>
     requires reading { Reading (plan_of lent.now) (pool_of lent.now) a × Reading (plan_of lent.now) (pool_of lent.now) b }
     requires left_bound { (left ≤ 200) × (at.old ≤ length row.now.now) × (length row.now.now ≤ 65536) }
     ensures { TakenBy or_kind (plan_of lent.now) (pool_of lent.now) a b left off
-        row.now.now at.old at.new result }
+        row.now.now at.old at.new (word result) }
 {
-    let tag = counted(TAGS, row, off, at);
-    if TAGS <= tag {
-        return tag;
-    }
+    let tag = counted(TAGS, row, off, at)?;
     let s = or::sides_of(tag, a, b);
-    let m = take(lent, s.part, row, left, 0, at);
-    if BIG <= m {
-        return m;
+    match take(lent, s.part, row, left, 0, at).result()? {
+        Some(m) => Ok(or::join(lent.plan, tag, s.other, m)),
+        None => Ok(None),
     }
-    or::join(lent.plan, tag, s.other, m)
 }
 
 // cons: both parts
 #[cycle(both_chosen_tagged_take_without)]
-fn both(lent: &Lent, a: usize, b: usize, row: &&[u64], left: usize, off: u64, at: &mut usize) -> u64
+fn both(
+    lent: &Lent,
+    a: usize,
+    b: usize,
+    row: &&[u64],
+    left: usize,
+    off: u64,
+    at: &mut usize,
+) -> Result<Option<u64>, Unread>
     requires reading { Reading (plan_of lent.now) (pool_of lent.now) a × Reading (plan_of lent.now) (pool_of lent.now) b }
     requires roomy { Roomy left off at.old row.now.now }
     ensures { TakenBy cons_kind (plan_of lent.now) (pool_of lent.now) a b left off
-        row.now.now at.old at.new result }
+        row.now.now at.old at.new (word result) }
 {
-    let x = take(lent, a, row, left, off, at);
-    if BIG < x {
-        return x;
+    let first = take(lent, a, row, left, off, at).result()?;
+    let second = take(lent, b, row, left, 0, at).result()?;
+    match first {
+        Some(x) => match second {
+            Some(y) => Ok(cons::join(lent.plan, a, b, x, y)),
+            None => Ok(None),
+        },
+        None => Ok(None),
     }
-    let y = take(lent, b, row, left, 0, at);
-    if BIG <= y {
-        return y;
-    }
-    if BIG <= x {
-        return BIG;
-    }
-    cons::join(lent.plan, a, b, x, y)
 }
 
-// dep: the first part, and the second that its number chooses. That number is below 256, so never BIG.
+// dep: the first part, and the second that its number chooses. That number is below 256, so never past the limit.
 #[cycle(both_chosen_tagged_take_without)]
 fn chosen(
     lent: &Lent,
@@ -80,23 +82,22 @@ fn chosen(
     left: usize,
     off: u64,
     at: &mut usize,
-) -> u64
+) -> Result<Option<u64>, Unread>
     requires choosing { Choosing (plan_of lent.now) (pool_of lent.now) a b }
     requires roomy { Roomy left off at.old row.now.now }
     ensures { TakenBy dep_kind (plan_of lent.now) (pool_of lent.now) a b left off
-        row.now.now at.old at.new result }
+        row.now.now at.old at.new (word result) }
 {
-    let x = take(lent, a, row, left, off, at);
-    if BIG <= x {
-        return x;
+    match take(lent, a, row, left, off, at).result()? {
+        Some(x) => {
+            let c = lent.pool[b + x as usize] as usize;
+            match take(lent, c, row, left, 0, at).result()? {
+                Some(y) => Ok(dep::join(lent.pool, lent.plan, a, b, x, y)),
+                None => Ok(None),
+            }
+        }
+        None => Ok(None),
     }
-    let pool = lent.pool;
-    let c = pool[b + x as usize] as usize;
-    let y = take(lent, c, row, left, 0, at);
-    if BIG <= y {
-        return y;
-    }
-    dep::join(pool, lent.plan, a, b, x, y)
 }
 
 // except: a part at another number than b. 15: "the case an except removed (met after its last cell)"
@@ -109,45 +110,46 @@ fn without(
     left: usize,
     off: u64,
     at: &mut usize,
-) -> u64
+) -> Result<Option<u64>, Unread>
     requires reading { Reading (plan_of lent.now) (pool_of lent.now) a × (b < 2 ^ 62) }
     requires roomy { Roomy left off at.old row.now.now }
     ensures { TakenBy except_kind (plan_of lent.now) (pool_of lent.now) a b left off
-        row.now.now at.old at.new result }
+        row.now.now at.old at.new (word result) }
 {
-    let m = take(lent, a, row, left, off, at);
-    if BIG <= m {
-        return m;
+    match take(lent, a, row, left, off, at).result()? {
+        Some(m) => {
+            if m == b {
+                return Err(Unread::NotACase);
+            }
+            Ok(except::join(b, m))
+        }
+        None => Ok(None),
     }
-    if m == b {
-        return UNFIT;
-    }
-    except::join(b, m)
 }
 
 // "Reading walks the same nodes from cells": the walk calls itself on parts, and the depth left falls.
 // `off` is what the shifts above take off the first cell.
 #[cycle(both_chosen_tagged_take_without)]
-pub fn take(lent: &Lent, i: usize, row: &&[u64], left: usize, off: u64, at: &mut usize) -> u64
+pub fn take(lent: &Lent, i: usize, row: &&[u64], left: usize, off: u64, at: &mut usize) -> Number
     requires reading { Reading (plan_of lent.now) (pool_of lent.now) i }
     requires roomy { Roomy left off at.old row.now.now }
     ensures { Taken (2 ^ 62 + (201 - left)) (run (rule_in (plan_of lent.now) (pool_of lent.now)) left off i)
         row.now.now at.old at.new result }
 {
     if left == 0 {
-        return DEEP;
+        return Number::of(Err(Unread::TooDeep));
     }
     let plan = lent.plan;
     let Entry { kind, a, b, .. } = plan[i];
     match kind {
-        Kind::Below => counted(a as u64, row, off, at),
-        Kind::Nats => any(row, off, at),
-        Kind::Pool => listed(lent, a, b as usize, row, off, at),
+        Kind::Below => Number::exactly(counted(a as u64, row, off, at)),
+        Kind::Nats => Number::of(any(row, off, at)),
+        Kind::Pool => Number::exactly(listed(lent, a, b as usize, row, off, at)),
         Kind::Shift => take(lent, a, row, left - 1, off + b, at),
-        Kind::Or => tagged(lent, a, b as usize, row, left - 1, off, at),
-        Kind::Cons => both(lent, a, b as usize, row, left - 1, off, at),
-        Kind::Dep => chosen(lent, a, b as usize, row, left - 1, off, at),
-        Kind::Except => without(lent, a, b, row, left - 1, off, at),
+        Kind::Or => Number::of(tagged(lent, a, b as usize, row, left - 1, off, at)),
+        Kind::Cons => Number::of(both(lent, a, b as usize, row, left - 1, off, at)),
+        Kind::Dep => Number::of(chosen(lent, a, b as usize, row, left - 1, off, at)),
+        Kind::Except => Number::of(without(lent, a, b, row, left - 1, off, at)),
         Kind::Fix => take(lent, a, row, left - 1, off, at),
         Kind::Again => take(lent, a, row, left - 1, off, at),
     }

@@ -20,7 +20,7 @@ use Rattle.grammar.specs.declared.entry.Entry.{Entry}
 use Rattle.grammar.specs.Rule.{Item}
 use Rattle.grammar.specs.Checks.{few, fits, is_endless, all_finite, all_endless, all_lower, total}
 use Rattle.grammar.specs.Checks.{count as count_of}
-use Rattle.grammar.specs.Plan.{size_in, kind_word, a_word, b_word, node_in, rule_in}
+use Rattle.grammar.specs.Plan.{size_in, a_word, b_word, node_in, rule_in}
 use Rattle.grammar.specs.Seconds.{firsts, head_size, DepIn}
 use Rattle.grammar.specs.kinds.Dep.{seconds_of, dep_rule}
 use Rattle.grammar.specs.kinds.Dep.{dep as dep_kind}

@@ -11,7 +11,7 @@ use mathlib.Core.Path.{◌≡◌, refl, sym, ap, subst, ◌∙◌}
 use mathlib.Core.Bool.{true, false, ◌||◌, false≢true}
 use mathlib.Core.Logic.{◌⊎◌, inl, inr, ⊎_elim}
 use mathlib.Core.List.{List, [], ◌∷◌}
-use Prim.Native.Nat.{ℕ, ◌+◌, ◌*◌, ◌≤◌, ◌<◌}
+use Prim.Native.Nat.{ℕ, ◌≤◌, ◌<◌}
 use native.Mathlib.Omega.{arith}
 use lib.Dec.{eqb}
 use lib.ListN.{length, get_or}
@@ -20,7 +20,7 @@ use Rattle.numbers.specs.Size.{Size, Below, NotZero, size_of}
 use Rattle.numbers.proofs.size.SizeWords.{by_size}
 use Rattle.grammar.specs.declared.entry.Entry.{Entry}
 use Rattle.grammar.specs.Rule.{Item, part, Rule}
-use Rattle.grammar.specs.Kind.{Node, Kind, before}
+use Rattle.grammar.specs.Kind.{Node, before}
 use Rattle.grammar.specs.Law.{Holds, Under}
 use Rattle.grammar.specs.kinds.{kinds, unknown, kind_in}
 use Rattle.grammar.specs.declared.kind.Kind.{Kind as Word}

@@ -5,7 +5,7 @@
 --   Choosing   a dep's first part and its seconds
 --   Raised     what the shifts above a node may add to its first cell
 -- Assumes nothing.
-use Rattle.std.specs.Prelude.{◌≡◌, true, ◌||◌, ◌⊎◌, List, ℕ, ◌+◌, ◌*◌, ◌≤◌, ◌<◌, length, get_or, take, drop}
+use Rattle.std.specs.Prelude.{◌≡◌, true, ◌||◌, ◌⊎◌, List, ℕ, ◌+◌, ◌≤◌, ◌<◌, length, get_or, take, drop}
 use Rattle.numbers.specs.Size.{Below, NotZero}
 use Rattle.grammar.specs.declared.entry.Entry.{Entry}
 use Rattle.grammar.specs.Law.{Good, Holds}

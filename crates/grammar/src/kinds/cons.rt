@@ -1,6 +1,6 @@
 // 5 cons | nodes | both lower (4); size (8) | product
 ghost use Rattle.std.specs.Prelude.{◌≡◌, List, ℕ, ◌+◌, ◌*◌, ◌<◌, ◌≤◌, length, get_or};
-ghost use Rattle.numbers.specs.Joined.{capped, word_of};
+ghost use Rattle.numbers.specs.Joined.{capped};
 ghost use Rattle.numbers.specs.Cons;
 ghost use Rattle.grammar.specs.Nodes.{node_with};
 ghost use Rattle.grammar.specs.kinds.Cons.{cons, cons_rule};
@@ -10,7 +10,6 @@ ghost use Rattle.grammar.specs.Shown.{ShowsTwo};
 use super::super::entry::Entry;
 use super::super::refusal::Refusal;
 use super::{Two, asks, of_measured};
-use numbers::joined::BIG;
 use numbers::size;
 
 #[tactic(auto, unfolding(crate::specs::Plan::weighed, crate::specs::Plan::coded, crate::specs::Checks::row))]
@@ -40,9 +39,9 @@ pub fn step(plan: &[Entry], a: usize, b: usize, n: u64) -> Two
 }
 
 // The number of a cons's case: x and y are its parts' numbers.
-pub fn join(plan: &[Entry], a: usize, b: usize, x: u64, y: u64) -> u64
+pub fn join(plan: &[Entry], a: usize, b: usize, x: u64, y: u64) -> Option<u64>
     requires { (a < length plan.now) × (b < length plan.now) }
-    ensures { result ≡ word_of (capped (Cons.join (size_in plan.now a) (size_in plan.now b) x y)) }
+    ensures { result ≡ capped (Cons.join (size_in plan.now a) (size_in plan.now b) x y) }
 {
-    numbers::cons::join(plan[a].size, plan[b].size, x, y).unwrap_or(BIG)
+    numbers::cons::join(plan[a].size, plan[b].size, x, y)
 }

@@ -1,7 +1,7 @@
 // 6 dep | node, place | a lower (4); its size m finite, at most 256 (7); b+m within the pool (5); each of those m words
 // a lower node (4); all finite or all endless (7); size (8) | sum of the seconds
 ghost use Rattle.std.specs.Prelude.{◌≡◌, List, ℕ, ◌+◌, ◌*◌, ◌^◌, ◌<◌, ◌≤◌, length, get_or, take, drop};
-ghost use Rattle.numbers.specs.Joined.{capped, word_of};
+ghost use Rattle.numbers.specs.Joined.{capped};
 ghost use Rattle.numbers.specs.Dep.{in_turn};
 ghost use Rattle.numbers.specs.Dep;
 ghost use Rattle.grammar.specs.Kind.{before};
@@ -18,7 +18,6 @@ use super::super::pool_words::{all_lower, run, run_within};
 use super::super::refusal::Refusal;
 use super::{Two, asks};
 use numbers::cons::Pair;
-use numbers::joined::BIG;
 use numbers::size::{ENDLESS, LARGEST};
 
 // "its size m finite, at most 256"
@@ -134,7 +133,7 @@ fn sum_of(plan: &[Entry], words: &[u64]) -> u64
 }
 
 // The number of a dep's case: x is the first part's number, y that of the second that it chooses.
-fn joined(pool: &[u64], plan: &[Entry], a: usize, b: usize, x: u64, y: u64) -> Option<u64>
+pub fn join(pool: &[u64], plan: &[Entry], a: usize, b: usize, x: u64, y: u64) -> Option<u64>
     requires { DepIn plan.now pool.now a b × (x < firsts plan.now a) }
     ensures { result ≡ capped (Dep.join (seconds_sized plan.now pool.now a b) x y) }
 {
@@ -144,13 +143,6 @@ fn joined(pool: &[u64], plan: &[Entry], a: usize, b: usize, x: u64, y: u64) -> O
         return numbers::dep::join_finite(sum, y);
     }
     numbers::dep::join_endless(plan[a].size, x, y)
-}
-
-pub fn join(pool: &[u64], plan: &[Entry], a: usize, b: usize, x: u64, y: u64) -> u64
-    requires { DepIn plan.now pool.now a b × (x < firsts plan.now a) }
-    ensures { result ≡ word_of (capped (Dep.join (seconds_sized plan.now pool.now a b) x y)) }
-{
-    joined(pool, plan, a, b, x, y).unwrap_or(BIG)
 }
 
 // "to a dep's first and each second"

@@ -1,7 +1,7 @@
 // 7 except | node, number | a lower (4); size of a not 1 (7); b below that size and below 2^62 (5) | one less
 ghost use Rattle.std.specs.Prelude.{◌≡◌, List, ℕ, ◌+◌, ◌*◌, ◌≤◌, length};
 ghost use Rattle.numbers.specs.Except;
-ghost use Rattle.numbers.specs.Joined.{capped, word_of};
+ghost use Rattle.numbers.specs.Joined.{capped};
 ghost use Rattle.grammar.specs.Nodes.{node_with};
 ghost use Rattle.grammar.specs.kinds.Except.{except};
 ghost use Rattle.grammar.specs.Plan.{size_in, weighed};
@@ -9,7 +9,6 @@ ghost use Rattle.grammar.specs.Plan.{size_in, weighed};
 use super::super::entry::Entry;
 use super::super::refusal::Refusal;
 use super::asks;
-use numbers::joined::BIG;
 use numbers::size;
 use numbers::size::LARGEST;
 
@@ -27,9 +26,9 @@ pub fn check(plan: &[Entry], n: usize, a: usize, b: u64) -> Result<u64, Refusal>
 }
 
 // The number of an except's case: m is the part's, and not the removed one.
-pub fn join(b: u64, m: u64) -> u64
+pub fn join(b: u64, m: u64) -> Option<u64>
     requires { m ≡ b → ⊥ }
-    ensures { result ≡ word_of (capped (Except.join b m)) }
+    ensures { result ≡ capped (Except.join b m) }
 {
-    numbers::except::join(b, m).unwrap_or(BIG)
+    numbers::except::join(b, m)
 }

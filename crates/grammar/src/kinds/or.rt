@@ -1,7 +1,7 @@
 // 4 or | nodes | both lower (4); size (8) | sum
 ghost use Rattle.std.specs.Prelude.{◌≡◌, List, [], ◌∷◌, ℕ, ◌+◌, ◌*◌, ◌<◌, ◌≤◌, eqb, length};
 ghost use Rattle.numbers.specs.Pick.{pick};
-ghost use Rattle.numbers.specs.Joined.{capped, word_of};
+ghost use Rattle.numbers.specs.Joined.{capped};
 ghost use Rattle.numbers.specs.Or;
 ghost use Rattle.grammar.specs.Nodes.{node_with};
 ghost use Rattle.grammar.specs.Rule.{part};
@@ -14,7 +14,6 @@ use super::super::entry::Entry;
 use super::super::named::{Named, one, two};
 use super::super::refusal::Refusal;
 use super::{Tagged, asks, of_measured};
-use numbers::joined::BIG;
 use numbers::or::Part;
 use numbers::size;
 
@@ -75,9 +74,9 @@ pub fn sides_of(tag: u64, a: usize, b: usize) -> Sides
 }
 
 // The number of an or's case: m is the number of the part with this tag; c is the other part.
-pub fn join(plan: &[Entry], tag: u64, c: usize, m: u64) -> u64
+pub fn join(plan: &[Entry], tag: u64, c: usize, m: u64) -> Option<u64>
     requires { (tag ≤ 1) × (c < length plan.now) }
-    ensures { result ≡ word_of (capped (Or.turn tag (size_in plan.now c) m)) }
+    ensures { result ≡ capped (Or.turn tag (size_in plan.now c) m) }
 {
-    numbers::or::turned(tag, plan[c].size, m).unwrap_or(BIG)
+    numbers::or::turned(tag, plan[c].size, m)
 }

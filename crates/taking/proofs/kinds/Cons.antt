@@ -1,9 +1,11 @@
 -- What a cons reads: its first part, which has been read as x, and then its second.
 -- Assumes nothing.
-use mathlib.Core.Path.{◌≡◌, refl}
+use mathlib.Core.Path.{◌≡◌, refl, subst}
+use mathlib.Core.Logic.{⊎_elim}
 use mathlib.Core.List.{List}
 use Prim.Native.Nat.{ℕ, ◌+◌, ◌-◌, ◌^◌, ◌≤◌, ◌<◌}
 use native.Mathlib.Omega.{arith}
+use Rattle.lists.proofs.Order.{le_or_lt}
 use Rattle.numbers.specs.Cons
 use Rattle.numbers.specs.Joined.{capped, word_of}
 use Rattle.numbers.proofs.cons.SplitJoin as Conses
@@ -43,3 +45,11 @@ module _ (plan : List Entry) (p : List ℕ) (a b left off : ℕ) {row : List ℕ
     pub cons_number : y < 2 ^ 63 → x < 2 ^ 63 → {w : ℕ} → w ≡ word_of (capped (joined x y)) → TakenBy cons_kind plan p a b left off row at next w
     unfolding cons_rule
     cons_number small low f = two_number go off (λ m. b) joined h s (λ m q. refl) (λ m q n. least m n) (omega arith) k (omega arith) small low f
+
+    -- the first part was past the limit
+    pub cons_past : y ≤ 2 ^ 63 → 2 ^ 63 ≤ x → TakenBy cons_kind plan p a b left off row at next (2 ^ 63)
+    cons_past l big =
+        ⊎_elim (λ o. subst (TakenBy cons_kind plan p a b left off row at next) (same o l) (cons_stays o)) (λ o. cons_big o big) (le_or_lt (2 ^ 63) y)
+      where
+        same : {v : ℕ} → 2 ^ 63 ≤ v → v ≤ 2 ^ 63 → v ≡ 2 ^ 63
+        same o l = omega arith

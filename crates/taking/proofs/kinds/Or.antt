@@ -1,14 +1,12 @@
 -- What an or reads: a tag, which has been read as x, and then the part that it leads to.
 -- Assumes nothing.
 use mathlib.Core.Path.{◌≡◌, refl, sym, subst}
-use mathlib.Core.Logic.{⊎_elim}
 use mathlib.Core.List.{List}
 use Prim.Native.Nat.{ℕ, zero, suc, ◌+◌, ◌-◌, ◌^◌, ◌≤◌, ◌<◌}
 use native.Mathlib.Omega.{arith}
 use lib.Dec.{eqb}
 use lib.ListN.{length}
 use borrow.Author.Tests.{ne_eqb}
-use Rattle.lists.proofs.Order.{le_or_lt}
 use Rattle.numbers.specs.Pick.{pick}
 use Rattle.numbers.specs.Or
 use Rattle.numbers.proofs.Tests.{pick_by}
@@ -30,10 +28,6 @@ use Rattle.taking.proofs.Takes.{tag_stops, tag_then, last_stays, last_number}
 pub tag_inside : (off : ℕ) {row : List ℕ} {at e x : ℕ} → ((go : ℕ → ℕ → ℕ → List ℕ → Read) → Taken limit (follow go off (below_rule 2).tree) row at e x)
     → x ≤ 2 ^ 63 → e ≤ length row
 tag_inside off h l = (h (λ o i q cs. wrong NotACase)).inside l
-
--- a word that is no tag says why
-pub tag_none : (x : ℕ) → (x ≤ 2 ^ 63 → x < 2) → 2 ≤ x → 2 ^ 63 < x
-tag_none x f l = ⊎_elim (λ h. absurd (omega (arith, f h))) (λ h. h) (le_or_lt x (2 ^ 63))
 
 module _ (plan : List Entry) (p : List ℕ) (a b left off : ℕ) {row : List ℕ} {at e x : ℕ}
     (h : (go : ℕ → ℕ → ℕ → List ℕ → Read) → Taken limit (follow go off (below_rule 2).tree) row at e x) where

@@ -205,4 +205,3 @@ unfolding rules
 tally-returns-in-Again t c =
     tally_by _
     (walk_pass _ _ _ _ c.if-left-eq0.false (items_by c.requires.visits c.in-Again.is refl) refl) c.tally-in-Again.ensures
-

@@ -1,4 +1,4 @@
-use mathlib.Core.Path.{refl, sym}
+use mathlib.Core.Path.{refl, sym, ap}
 use native.Mathlib.Nat.{add-zero}
 use native.Mathlib.Omega.{arith}
 use Rattle.walk.specs.Plan.{Reading}
@@ -7,153 +7,23 @@ use Rattle.grammar.proofs.laws.Below.{below_most}
 use Rattle.grammar.proofs.laws.Pool.{pool_in}
 use Rattle.grammar.proofs.laws.Shift.{shift_small}
 use Rattle.grammar.proofs.laws.Except.{except_small}
-use Rattle.walk.proofs.Nodes.{reads_in, tree_by, parts_by, checked_by, reads_one, reads_two}
+use Rattle.walk.proofs.Nodes.{tree_by, parts_by, checked_by, reads_one, reads_two}
 use Rattle.walk.proofs.Choosing.{choosing, second_place}
-use Rattle.taking.proofs.Calls.{part_first, part_next, visit_part, visit_shift, visit_shape, visit_tagged}
+use Rattle.taking.proofs.Calls.{part_next, visit_part, visit_shift, visit_shape, visit_tagged}
+use Rattle.std.proofs.lemmas.Result.{err_from_is_err_and}
+use Rattle.numbers.specs.Joined.{word_of}
+use Rattle.taking.proofs.Said.{unread_over, read_some, read_none, read_err, read_ok}
 use Rattle.taking.proofs.Takes.{deep_taken, tree_taken, pass_taken}
-use Rattle.taking.proofs.kinds.Or.{tag_inside, tag_none, or_stops, or_stays, or_number, side_of}
-use Rattle.taking.proofs.kinds.Cons.{cons_stops, cons_stays, cons_big, cons_number}
+use Rattle.taking.proofs.kinds.Or.{tag_inside, or_stops, or_stays, or_number, side_of}
+use Rattle.taking.proofs.kinds.Cons.{cons_stops, cons_stays, cons_past, cons_number}
 use Rattle.taking.proofs.kinds.Dep.{dep_first, dep_stops, dep_stays, dep_number}
 use Rattle.taking.proofs.kinds.Except.{except_unfit, except_stays, except_number}
 use Rattle.taking.proofs.take.+both_chosen_tagged_take_without.Goals as goal
 
-pub both-take-x-requires : goal.both-take-x-requires
-unfolding rules
-both-take-x-requires t c =
-    part_first c.decreases _ _ c.requires.roomy c.requires.reading.0
-
-pub both-returns-then-x-gt-BIG : goal.both-returns-then-x-gt-BIG
-unfolding rules
-both-returns-then-x-gt-BIG t c =
-    cons_stops _ _ _ _ _ _ c.take-x.ensures c.if-x-gt-BIG.true
-
-pub both-take-y-requires : goal.both-take-y-requires
-unfolding rules
-both-take-y-requires t c =
-    part_next c.decreases c.requires.roomy.0
-    (c.take-x.ensures.inside c.if-x-gt-BIG.false) c.requires.roomy.3 c.requires.reading.1
-
-pub both-returns-then-y-ge-BIG : goal.both-returns-then-y-ge-BIG
-unfolding rules
-both-returns-then-y-ge-BIG t c =
-    cons_stays _ _ _ _ _ _
-    c.take-x.ensures c.requires.reading c.if-x-gt-BIG.false c.take-y.ensures c.if-y-ge-BIG.true
-
-pub both-returns-then-x-ge-BIG : goal.both-returns-then-x-ge-BIG
-unfolding rules
-both-returns-then-x-ge-BIG t c =
-    cons_big _ _ _ _ _ _ c.take-x.ensures c.requires.reading c.if-x-gt-BIG.false c.take-y.ensures c.if-y-ge-BIG.false c.if-x-ge-BIG.true
-
-pub both-join-requires : goal.both-join-requires
-unfolding rules
-both-join-requires t c = (
-  reads_in c.requires.reading.0,
-  reads_in
-      c.requires.reading.1,
-)
-
-pub both-returns : goal.both-returns
-unfolding rules
-both-returns t c =
-    cons_number _ _ _ _ _ _ c.take-x.ensures c.requires.reading
-    c.if-x-gt-BIG.false c.take-y.ensures c.if-y-ge-BIG.false c.if-x-ge-BIG.false
-    c.join.ensures
-
-pub chosen-take-x-requires : goal.chosen-take-x-requires
-unfolding rules
-chosen-take-x-requires t c =
-    part_first c.decreases _ _ c.requires.roomy c.requires.choosing.first
-
-pub chosen-returns-then-x-ge-BIG : goal.chosen-returns-then-x-ge-BIG
-unfolding rules
-chosen-returns-then-x-ge-BIG t c =
-    dep_stops c.requires.choosing _ _ c.take-x.ensures c.if-x-ge-BIG.true
-
-pub chosen-overflow_add-c : goal.chosen-overflow_add-c
-unfolding rules
-chosen-overflow_add-c t c =
-    let q = second_place c.requires.choosing _
-    (dep_first c.requires.choosing _ _ c.take-x.ensures (omega (arith, c.if-x-ge-BIG.false))).1 in omega (arith, q.0, q.1)
-
-pub chosen-offset_bounds-pool-b : goal.chosen-offset_bounds-pool-b
-unfolding rules
-chosen-offset_bounds-pool-b t c =
-    let q = second_place c.requires.choosing _
-    (dep_first c.requires.choosing _ _ c.take-x.ensures (omega (arith, c.if-x-ge-BIG.false))).1 in omega (arith, q.0, q.1)
-
-pub chosen-bounds-pool-b : goal.chosen-bounds-pool-b
-unfolding rules
-chosen-bounds-pool-b t c =
-    let q = second_place c.requires.choosing _
-    (dep_first c.requires.choosing _ _ c.take-x.ensures (omega (arith, c.if-x-ge-BIG.false))).1 in omega (arith, q.0, q.1)
-
-pub chosen-take-y-requires : goal.chosen-take-y-requires
-unfolding rules
-chosen-take-y-requires t c =
-    part_next c.decreases
-    c.requires.roomy.0 (c.take-x.ensures.inside (omega (arith, c.if-x-ge-BIG.false))) c.requires.roomy.3
-    (c.requires.choosing.seconds _ (dep_first c.requires.choosing _ _ c.take-x.ensures (omega (arith, c.if-x-ge-BIG.false))).1)
-
-pub chosen-returns-then-y-ge-BIG : goal.chosen-returns-then-y-ge-BIG
-unfolding rules
-chosen-returns-then-y-ge-BIG t c =
-    dep_stays
-    c.requires.choosing _ _ c.take-x.ensures (dep_first c.requires.choosing _ _ c.take-x.ensures (omega (arith, c.if-x-ge-BIG.false)))
-    c.take-y.ensures c.if-y-ge-BIG.true
-
-pub chosen-join-requires : goal.chosen-join-requires
-unfolding rules
-chosen-join-requires t c =
-    (c.requires.choosing.words, (dep_first c.requires.choosing _ _ c.take-x.ensures (omega (arith, c.if-x-ge-BIG.false))).1)
-
-pub chosen-returns : goal.chosen-returns
-unfolding rules
-chosen-returns t c =
-    dep_number c.requires.choosing _ _ c.take-x.ensures
-    (dep_first c.requires.choosing _ _ c.take-x.ensures (omega (arith, c.if-x-ge-BIG.false))) c.take-y.ensures c.if-y-ge-BIG.false
-    c.join.ensures
-
-pub tagged-counted-tag-requires : goal.tagged-counted-tag-requires
-unfolding rules
-tagged-counted-tag-requires t c =
-    (omega arith, c.requires.left_bound.1, c.requires.left_bound.2)
-
-pub tagged-returns-then-tag-ge-TAGS : goal.tagged-returns-then-tag-ge-TAGS
-unfolding rules
-tagged-returns-then-tag-ge-TAGS t c =
-    or_stops _ _ _ _ _ _ c.counted-tag.ensures.1 (tag_none _ c.counted-tag.ensures.0 c.if-tag-ge-TAGS.true)
-
-pub tagged-take-m-requires : goal.tagged-take-m-requires
-unfolding rules
-tagged-take-m-requires t c =
-    part_next c.decreases c.requires.left_bound.0 (tag_inside _ c.counted-tag.ensures.1 (omega (arith, c.if-tag-ge-TAGS.false))) c.requires.left_bound.2
-    (side_of (Reading _ _) _ _ c.requires.reading c.counted-tag.result c.sides_of-s.ensures.0)
-
-pub tagged-returns-then-m-ge-BIG : goal.tagged-returns-then-m-ge-BIG
-unfolding rules
-tagged-returns-then-m-ge-BIG t c =
-    or_stays _ _ _ _ _ _ c.counted-tag.ensures.1 (omega (arith, c.if-tag-ge-TAGS.false)) c.sides_of-s.ensures.0 c.take-m.ensures
-    c.if-m-ge-BIG.true
-
-pub tagged-join-requires : goal.tagged-join-requires
-unfolding rules
-tagged-join-requires t c = (
-  omega (arith, c.if-tag-ge-TAGS.false),
-  reads_in (side_of (Reading _ _) _ _ (c.requires.reading.1, c.requires.reading.0) c.counted-tag.result
-      c.sides_of-s.ensures.1),
-)
-
-pub tagged-returns : goal.tagged-returns
-unfolding rules
-tagged-returns t c =
-    or_number _ _ _ _ _ _ c.counted-tag.ensures.1 (omega (arith, c.if-tag-ge-TAGS.false)) c.sides_of-s.ensures.0 c.take-m.ensures
-    c.if-m-ge-BIG.false
-    c.sides_of-s.ensures.1 c.join.ensures
-
 pub take-returns-then-left-eq0 : goal.take-returns-then-left-eq0
 unfolding rules
 take-returns-then-left-eq0 t c =
-    deep_taken _ _ _ c.if-left-eq0.true
+    rw c.of.ensures (deep_taken _ _ _ c.if-left-eq0.true)
 
 pub take-counted-requires : goal.take-counted-requires
 unfolding rules
@@ -238,20 +108,17 @@ take-take-requires-in-Again t c =
 pub take-returns-in-Below : goal.take-returns-in-Below
 unfolding rules
 take-returns-in-Below t c =
-    tree_taken _ _ _ c.if-left-eq0.false
-    (tree_by c.requires.reading c.in-Below.is) (omega arith) (c.counted.ensures.1 _)
+    rw c.exactly.ensures (tree_taken _ _ _ c.if-left-eq0.false (tree_by c.requires.reading c.in-Below.is) (omega arith) (c.counted.ensures.reads _))
 
 pub take-returns-in-Nats : goal.take-returns-in-Nats
 unfolding rules
 take-returns-in-Nats t c =
-    tree_taken _ _ _ c.if-left-eq0.false
-    (tree_by c.requires.reading c.in-Nats.is) (omega arith) (c.any.ensures _)
+    rw c.of-in-Nats.ensures (tree_taken _ _ _ c.if-left-eq0.false (tree_by c.requires.reading c.in-Nats.is) (omega arith) (c.any.ensures _))
 
 pub take-returns-in-Pool : goal.take-returns-in-Pool
 unfolding rules
 take-returns-in-Pool t c =
-    tree_taken _ _ _ c.if-left-eq0.false
-    (tree_by c.requires.reading c.in-Pool.is) (omega arith) (c.listed.ensures _)
+    rw c.exactly-in-Pool.ensures (tree_taken _ _ _ c.if-left-eq0.false (tree_by c.requires.reading c.in-Pool.is) (omega arith) (c.listed.ensures _))
 
 pub take-returns-in-Shift : goal.take-returns-in-Shift
 unfolding rules
@@ -262,26 +129,22 @@ take-returns-in-Shift t c =
 pub take-returns-in-Or : goal.take-returns-in-Or
 unfolding rules
 take-returns-in-Or t c =
-    tree_taken _ _ _
-    c.if-left-eq0.false (tree_by c.requires.reading c.in-Or.is) (omega arith) c.tagged.ensures
+    rw c.of-in-Or.ensures (tree_taken _ _ _ c.if-left-eq0.false (tree_by c.requires.reading c.in-Or.is) (omega arith) c.tagged.ensures)
 
 pub take-returns-in-Cons : goal.take-returns-in-Cons
 unfolding rules
 take-returns-in-Cons t c =
-    tree_taken _ _ _
-    c.if-left-eq0.false (tree_by c.requires.reading c.in-Cons.is) (omega arith) c.both.ensures
+    rw c.of-in-Cons.ensures (tree_taken _ _ _ c.if-left-eq0.false (tree_by c.requires.reading c.in-Cons.is) (omega arith) c.both.ensures)
 
 pub take-returns-in-Dep : goal.take-returns-in-Dep
 unfolding rules
 take-returns-in-Dep t c =
-    tree_taken _ _ _
-    c.if-left-eq0.false (tree_by c.requires.reading c.in-Dep.is) (omega arith) c.chosen.ensures
+    rw c.of-in-Dep.ensures (tree_taken _ _ _ c.if-left-eq0.false (tree_by c.requires.reading c.in-Dep.is) (omega arith) c.chosen.ensures)
 
 pub take-returns-in-Except : goal.take-returns-in-Except
 unfolding rules
 take-returns-in-Except t c =
-    tree_taken _ _ _
-    c.if-left-eq0.false (tree_by c.requires.reading c.in-Except.is) (omega arith) c.without.ensures
+    rw c.of-in-Except.ensures (tree_taken _ _ _ c.if-left-eq0.false (tree_by c.requires.reading c.in-Except.is) (omega arith) c.without.ensures)
 
 pub take-returns-in-Fix : goal.take-returns-in-Fix
 unfolding rules
@@ -295,29 +158,163 @@ take-returns-in-Again t c =
     pass_taken _ _ _ c.if-left-eq0.false
     (tree_by c.requires.reading c.in-Again.is) (sym (add-zero _)) (omega arith) c.take-in-Again.ensures
 
-pub without-take-m-requires : goal.without-take-m-requires
+pub both-returns-in-None : goal.both-returns-in-None
 unfolding rules
-without-take-m-requires t c =
-    part_first c.decreases _ _ c.requires.roomy c.requires.reading.0
+both-returns-in-None t c =
+    let x = read_none c.take.ensures c.in_ok-first.ensures c.in-None.is in
+    (cons_past _ _ _ _ _ _ x c.requires.reading (omega arith) c.take-2.ensures (read_ok _ c.in_ok-second.ensures) (omega arith))
 
-pub without-returns-then-m-ge-BIG : goal.without-returns-then-m-ge-BIG
+pub both-returns-in-None-second : goal.both-returns-in-None-second
 unfolding rules
-without-returns-then-m-ge-BIG t c =
-    except_stays _ _ _ _ _ _ c.take-m.ensures c.requires.roomy.0 c.requires.reading.1
-    c.if-m-ge-BIG.true
+both-returns-in-None-second t c =
+    let y = read_none c.take-2.ensures c.in_ok-second.ensures c.in-None-second.is in
+    (cons_stays _ _ _ _ _ _ c.take.ensures c.requires.reading (read_ok _ c.in_ok-first.ensures) y (omega arith))
+
+pub both-returns-in-Some-second : goal.both-returns-in-Some-second
+unfolding rules
+both-returns-in-Some-second t c =
+    let x = read_some c.take.ensures c.in_ok-first.ensures c.in-Some.is in
+    let y = read_some c.take-2.ensures c.in_ok-second.ensures c.in-Some-second.is in
+    cons_number _ _ _ _ _ _ x.0 c.requires.reading (omega (arith, x.1)) y.0 y.1 x.1 (ap word_of c.join.ensures)
+
+pub both-returns-in_err-first : goal.both-returns-in_err-first
+unfolding rules
+both-returns-in_err-first t c =
+    let p = err_from_is_err_and c.from_residual.result c.from_residual.ensures.1 in
+    rw (p.1, p.2) (cons_stops _ _ _ _ _ _ (read_err c.take.ensures _ c.in_err-first.ensures) (unread_over _))
+
+pub both-returns-in_err-second : goal.both-returns-in_err-second
+unfolding rules
+both-returns-in_err-second t c =
+    let p = err_from_is_err_and c.from_residual-in_err-second.result c.from_residual-in_err-second.ensures.1 in
+    let y = read_err c.take-2.ensures _ c.in_err-second.ensures in
+    rw (p.1, p.2) (cons_stays _ _ _ _ _ _ c.take.ensures c.requires.reading (read_ok _ c.in_ok-first.ensures) y (omega (arith, unread_over c.in_err-second.field-0.0)))
+
+pub chosen-bounds-lent-b : goal.chosen-bounds-lent-b
+unfolding rules
+chosen-bounds-lent-b t c =
+    let d = c.requires.choosing in
+    let x = read_some c.take.ensures c.in_ok-x.ensures c.in-Some.is in
+    let low = dep_first d _ _ x.0 (omega (arith, x.1)) in
+    let q = second_place d _ low.1 in
+    omega (arith, q.0, q.1)
+
+pub chosen-join-requires : goal.chosen-join-requires
+unfolding rules
+chosen-join-requires t c =
+    let d = c.requires.choosing in
+    let x = read_some c.take.ensures c.in_ok-x.ensures c.in-Some.is in
+    let low = dep_first d _ _ x.0 (omega (arith, x.1)) in
+    (d.words, low.1)
+
+pub chosen-offset_bounds-lent-b : goal.chosen-offset_bounds-lent-b
+unfolding rules
+chosen-offset_bounds-lent-b t c =
+    let d = c.requires.choosing in
+    let x = read_some c.take.ensures c.in_ok-x.ensures c.in-Some.is in
+    let low = dep_first d _ _ x.0 (omega (arith, x.1)) in
+    let q = second_place d _ low.1 in
+    omega (arith, q.0, q.1)
+
+pub chosen-returns-in-None : goal.chosen-returns-in-None
+unfolding rules
+chosen-returns-in-None t c =
+    (dep_stops c.requires.choosing _ _ (read_none c.take.ensures c.in_ok-x.ensures c.in-None.is) (omega arith))
+
+pub chosen-returns-in-None-2 : goal.chosen-returns-in-None-2
+unfolding rules
+chosen-returns-in-None-2 t c =
+    let d = c.requires.choosing in
+    let x = read_some c.take.ensures c.in_ok-x.ensures c.in-Some.is in
+    let low = dep_first d _ _ x.0 (omega (arith, x.1)) in
+    (dep_stays d _ _ x.0 low (read_none c.take-in-Some.ensures c.in_ok-y-in-Some.ensures c.in-None-2.is) (omega arith))
+
+pub chosen-returns-in-Some-2 : goal.chosen-returns-in-Some-2
+unfolding rules
+chosen-returns-in-Some-2 t c =
+    let d = c.requires.choosing in
+    let x = read_some c.take.ensures c.in_ok-x.ensures c.in-Some.is in
+    let low = dep_first d _ _ x.0 (omega (arith, x.1)) in
+    let y = read_some c.take-in-Some.ensures c.in_ok-y-in-Some.ensures c.in-Some-2.is in
+    dep_number d _ _ x.0 low y.0 y.1 (ap word_of c.join.ensures)
+
+pub chosen-returns-in_err-x : goal.chosen-returns-in_err-x
+unfolding rules
+chosen-returns-in_err-x t c =
+    let p = err_from_is_err_and c.from_residual.result c.from_residual.ensures.1 in
+    rw (p.1, p.2) (dep_stops c.requires.choosing _ _ (read_err c.take.ensures _ c.in_err-x.ensures) (omega (arith, unread_over c.in_err-x.field-0.0)))
+
+pub chosen-returns-in_err-y-in-Some : goal.chosen-returns-in_err-y-in-Some
+unfolding rules
+chosen-returns-in_err-y-in-Some t c =
+    let d = c.requires.choosing in
+    let x = read_some c.take.ensures c.in_ok-x.ensures c.in-Some.is in
+    let low = dep_first d _ _ x.0 (omega (arith, x.1)) in
+    let p = err_from_is_err_and c.from_residual-in_err-y-in-Some.result c.from_residual-in_err-y-in-Some.ensures.1 in
+    let y = read_err c.take-in-Some.ensures _ c.in_err-y-in-Some.ensures in
+    rw (p.1, p.2) (dep_stays d _ _ x.0 low y (omega (arith, unread_over c.in_err-y-in-Some.field-0.0)))
+
+pub chosen-take-requires-in-Some : goal.chosen-take-requires-in-Some
+unfolding rules
+chosen-take-requires-in-Some t c =
+    let d = c.requires.choosing in
+    let x = read_some c.take.ensures c.in_ok-x.ensures c.in-Some.is in
+    let low = dep_first d _ _ x.0 (omega (arith, x.1)) in
+    part_next c.decreases c.requires.roomy.0 (x.0.inside (omega (arith, x.1))) c.requires.roomy.3 (d.seconds _ low.1)
+
+pub tagged-returns-in-None : goal.tagged-returns-in-None
+unfolding rules
+tagged-returns-in-None t c =
+    let m = read_none c.take.ensures c.in_ok-m.ensures c.in-None.is in
+    (or_stays _ _ _ _ _ _ c.in_ok-tag.ensures.reads c.in_ok-tag.ensures.low c.sides_of-s.ensures.0 m (omega arith))
+
+pub tagged-returns-in-Some : goal.tagged-returns-in-Some
+unfolding rules
+tagged-returns-in-Some t c =
+    let m = read_some c.take.ensures c.in_ok-m.ensures c.in-Some.is in
+    or_number _ _ _ _ _ _ c.in_ok-tag.ensures.reads c.in_ok-tag.ensures.low c.sides_of-s.ensures.0 m.0 m.1 c.sides_of-s.ensures.1 (ap word_of c.join.ensures)
+
+pub tagged-returns-in_err-m : goal.tagged-returns-in_err-m
+unfolding rules
+tagged-returns-in_err-m t c =
+    let p = err_from_is_err_and c.from_residual-in_err-m.result c.from_residual-in_err-m.ensures.1 in
+    let m = read_err c.take.ensures _ c.in_err-m.ensures in
+    rw (p.1, p.2)
+    (or_stays _ _ _ _ _ _ c.in_ok-tag.ensures.reads c.in_ok-tag.ensures.low c.sides_of-s.ensures.0 m (omega (arith, unread_over c.in_err-m.field-0.0)))
+
+pub tagged-returns-in_err-tag : goal.tagged-returns-in_err-tag
+unfolding rules
+tagged-returns-in_err-tag t c =
+    let p = err_from_is_err_and c.from_residual.result c.from_residual.ensures.1 in
+    rw (p.1, p.2) (or_stops _ _ _ _ _ _ c.in_err-tag.ensures.reads (unread_over _))
+
+pub tagged-take-requires : goal.tagged-take-requires
+unfolding rules
+tagged-take-requires t c =
+    part_next c.decreases c.requires.left_bound.0 (tag_inside _ c.in_ok-tag.ensures.reads (omega (arith, c.in_ok-tag.ensures.low))) c.requires.left_bound.2
+    (side_of (Reading _ _) _ _ c.requires.reading c.in_ok-tag.tag c.sides_of-s.ensures.0)
+
+pub without-returns-else-m-b : goal.without-returns-else-m-b
+unfolding rules
+without-returns-else-m-b t c =
+    let m = read_some c.take.ensures c.in_ok-m.ensures c.in-Some.is in
+    except_number _ _ _ _ _ _ m.0 m.1 c.if-m-b.false (ap word_of c.join.ensures)
+
+pub without-returns-in-None : goal.without-returns-in-None
+unfolding rules
+without-returns-in-None t c =
+    let m = read_none c.take.ensures c.in_ok-m.ensures c.in-None.is in
+    (except_stays _ _ _ _ _ _ m c.requires.roomy.0 c.requires.reading.1 (omega arith))
+
+pub without-returns-in_err-m : goal.without-returns-in_err-m
+unfolding rules
+without-returns-in_err-m t c =
+    let p = err_from_is_err_and c.from_residual.result c.from_residual.ensures.1 in
+    let m = read_err c.take.ensures _ c.in_err-m.ensures in
+    rw (p.1, p.2) (except_stays _ _ _ _ _ _ m c.requires.roomy.0 c.requires.reading.1 (omega (arith, unread_over c.in_err-m.field-0.0)))
 
 pub without-returns-then-m-b : goal.without-returns-then-m-b
 unfolding rules
 without-returns-then-m-b t c =
-    except_unfit _ _ _ _ _ _ c.take-m.ensures c.if-m-ge-BIG.false c.if-m-b.true
-
-pub without-join-requires : goal.without-join-requires
-unfolding rules
-without-join-requires t c =
-    c.if-m-b.false
-
-pub without-returns : goal.without-returns
-unfolding rules
-without-returns t c =
-    except_number _ _ _ _ _ _ c.take-m.ensures c.if-m-ge-BIG.false
-    c.if-m-b.false c.join.ensures
+    let m = read_some c.take.ensures c.in_ok-m.ensures c.in-Some.is in
+    except_unfit _ _ _ _ _ _ m.0 m.1 c.if-m-b.true

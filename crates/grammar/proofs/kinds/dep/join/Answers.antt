@@ -1,7 +1,7 @@
--- `grammar::kinds::dep::joined` is the join of a dep.
+-- `grammar::kinds::dep::join` is the join of a dep.
 -- Assumes nothing.
 use Rattle.grammar.proofs.Joins.{few_sum, finite_join, endless_join}
-use Rattle.grammar.proofs.kinds.dep.joined.Goals as goal
+use Rattle.grammar.proofs.kinds.dep.join.Goals as goal
 
 pub sum_of-sum-requires-clause-sum_bound : goal.sum_of-sum-requires-clause-sum_bound
 sum_of-sum-requires-clause-sum_bound c =
