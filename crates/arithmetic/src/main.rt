@@ -6,9 +6,8 @@
 ghost use Rattle.std.specs.Prelude.{◌<◌, ◌≤◌, ◌^◌};
 ghost use Rattle.numbers.specs.Joined.{limit};
 
-use numbers::joined::Joined;
 use numbers::or::Part;
-use numbers::size::{ENDLESS, Measured};
+use numbers::size::ENDLESS;
 use numbers::{cons, except, or, root, size};
 
 // Standard output's number, as the system has it.
@@ -31,18 +30,18 @@ fn say_size(s: u64) {
     }
 }
 
-fn say_joined(j: Joined) {
+fn say_joined(j: Option<u64>) {
     match j {
-        Joined::Exact(n) => say_number(n),
-        Joined::Big => say(b" big"),
+        Some(n) => say_number(n),
+        None => say(b" big"),
     }
     say(b"\n");
 }
 
-fn say_measured(m: Measured) {
+fn say_measured(m: Option<u64>) {
     match m {
-        Measured::Of(s) => say_size(s),
-        Measured::Past => say(b" past 2^62"),
+        Some(s) => say_size(s),
+        None => say(b" past 2^62"),
     }
     say(b"\n");
 }
@@ -92,16 +91,13 @@ fn or_line(s: u64, t: u64, n: u64) {
     say(b" at");
     say_number(n);
     let p = or::split(s, t, n);
-    match p {
-        Part::First(m) => {
-            say(b": 0");
-            say_number(m);
-        }
-        Part::Second(m) => {
-            say(b": 1");
-            say_number(m);
-        }
-    }
+    let (tag, m) = match p {
+        Part::First(m) => (0, m),
+        Part::Second(m) => (1, m),
+    };
+    say(b":");
+    say_number(tag);
+    say_number(m);
     say(b", joined");
     say_joined(or::join(s, t, p));
 }
@@ -134,34 +130,29 @@ fn size_lines(s: u64, t: u64) {
 }
 
 fn roots() {
-    root_line(0);
-    root_line(1);
-    root_line(8);
-    root_line(9);
-    root_line(42);
-    root_line(2147483648);
-    root_line(4294967295);
-    root_line(4611686018427387903);
-    root_line(4611686018427387904);
-    root_line(18446744065119617024);
-    root_line(18446744065119617025);
-    root_line(18446744073709551615);
+    for n in [
+        0,
+        1,
+        8,
+        9,
+        42,
+        2147483648,
+        4294967295,
+        4611686018427387903,
+        4611686018427387904,
+        18446744065119617024,
+        18446744065119617025,
+        18446744073709551615,
+    ] {
+        root_line(n);
+    }
 }
 
 // 000, section 3: the first pairs along the edges of ever-widening squares.
 fn first_pairs() {
-    cons_line(ENDLESS, ENDLESS, 0);
-    cons_line(ENDLESS, ENDLESS, 1);
-    cons_line(ENDLESS, ENDLESS, 2);
-    cons_line(ENDLESS, ENDLESS, 3);
-    cons_line(ENDLESS, ENDLESS, 4);
-    cons_line(ENDLESS, ENDLESS, 5);
-    cons_line(ENDLESS, ENDLESS, 6);
-    cons_line(ENDLESS, ENDLESS, 7);
-    cons_line(ENDLESS, ENDLESS, 8);
-    cons_line(ENDLESS, ENDLESS, 9);
-    cons_line(ENDLESS, ENDLESS, 10);
-    cons_line(ENDLESS, ENDLESS, 11);
+    for n in 0..12 {
+        cons_line(ENDLESS, ENDLESS, n);
+    }
 }
 
 fn pairs() {
@@ -183,13 +174,9 @@ fn pairs() {
 }
 
 fn choices() {
-    or_line(2, ENDLESS, 0);
-    or_line(2, ENDLESS, 1);
-    or_line(2, ENDLESS, 2);
-    or_line(2, ENDLESS, 3);
-    or_line(2, ENDLESS, 4);
-    or_line(2, ENDLESS, 5);
-    or_line(2, ENDLESS, 6);
+    for n in 0..7 {
+        or_line(2, ENDLESS, n);
+    }
     or_line(ENDLESS, 2, 4);
     or_line(2, 3, 4);
     or_line(ENDLESS, ENDLESS, 4611686018427387903);

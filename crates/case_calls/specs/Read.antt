@@ -2,17 +2,15 @@
 --   found_text, read_text    of an answer, and of cells
 --   read_call               of the rest of its line
 -- Assumes nothing.
-use Rattle.std.specs.Prelude.{List, ℕ}
-use Rattle.cases.specs.Read.{reads}
-use Rattle.cases.specs.declared.reading.Found.{Found}
-use Rattle.cases.specs.declared.reading.Found.TheVariants.{Number, Refused}
+use Rattle.std.specs.Prelude.{List, ℕ, Ok, Err}
+use Rattle.cases.specs.Read.{Found, reads}
 use Rattle.texts.specs.Said.{refused_line}
 use Rattle.asking.specs.Fields.{fields_of, cells_of, with_cells}
 use Rattle.asking.specs.Texts.{number_line}
 
 unfoldable pub found_text : Found → List ℕ
-found_text (Number n) = number_line n
-found_text (Refused r k) = refused_line r k
+found_text (Ok n) = number_line n
+found_text (Err e) = refused_line e.refusal e.node
 
 unfoldable pub read_text : List ℕ → List ℕ → ℕ → List ℕ → List ℕ
 read_text t p i cs = found_text (reads t p i cs)

@@ -23,7 +23,8 @@ use Rattle.grammar.specs.Table.{nodes}
 use Rattle.grammar.specs.Sizes.{size_at, sizes, rules_of}
 use Rattle.grammar.specs.Verdict.{verdict}
 use Rattle.grammar.specs.declared.refusal.Refusal.TheVariants.{NotACase}
-use Rattle.grammar.specs.declared.refusal.Verdict.TheVariants.{Accepted}
+use Rattle.std.specs.Prelude.{Ok}
+use Rattle.grammar.specs.Refusals.{accepted, refused}
 use Rattle.walk.specs.Walk.{cell, walk, cells, depth}
 use Rattle.walk.specs.Room.{Case, most}
 use Rattle.walk.specs.Run.{read, run}
@@ -31,17 +32,15 @@ use Rattle.grammar.specs.Law.{Good}
 use Rattle.walk.proofs.Back.{back}
 use Rattle.walk.proofs.Only.{only, prefix_free}
 use Rattle.walk.proofs.Ends.{walk_some}
-use Rattle.cases.specs.Read.{reads}
+use Rattle.cases.specs.Read.{Found, reads}
 use Rattle.cases.specs.Write.{writes}
-use Rattle.cases.specs.declared.reading.Found.TheVariants.{Number, Refused}
-use Rattle.cases.specs.declared.writing.Written.TheVariants.{Done}
 use Rattle.cases.proofs.Meaning.{accepted_checked}
 use Rattle.checked.specs.Fits.{Asked}
 use Rattle.checked.proofs.Fitted.{cells_map}
 use Rattle.cases.proofs.WalkAnswers.{reads_is, left_over, found_number, number_found, writes_is, writes_done}
 use Rattle.walk.proofs.Ends.{deeper_cells}
 
-module _ (t p : List ℕ) (a : verdict t p ≡ Accepted) (i : ℕ) (l : i < nodes t) where
+module _ (t p : List ℕ) (a : verdict t p ≡ accepted) (i : ℕ) (l : i < nodes t) where
   abbrev z : ℕ → Size
   z = size_at (sizes t p)
 
@@ -53,7 +52,7 @@ module _ (t p : List ℕ) (a : verdict t p ≡ Accepted) (i : ℕ) (l : i < node
   below {n} q = subst (Below n) (sym (good.sized i l)) q.below
 
   -- ---- what a case is
-  case_of : (n room k : ℕ) → writes t p i n room ≡ Done k → Case (rules_of t p) i n (cells (walk (rules_of t p) depth 0 i n))
+  case_of : (n room k : ℕ) → writes t p i n room ≡ Ok k → Case (rules_of t p) i n (cells (walk (rules_of t p) depth 0 i n))
   case_of n room k e = let (q, s, c, f) = writes_done t p i n room k e in record { shows = s; few = omega arith }
 
   -- every case has at least one cell
@@ -61,7 +60,7 @@ module _ (t p : List ℕ) (a : verdict t p ≡ Accepted) (i : ℕ) (l : i < node
   case_some n cs q c = omega (arith, walk_some z (nodes t) (rules_of t p) good depth i n l (below q) 0, ap length c.shows, length-map cs cell)
 
   pub case_written : (n room : ℕ) (cs : List ℕ) → Asked (rules_of t p i).size n → Case (rules_of t p) i n cs → length cs ≤ room
-      → (writes t p i n room ≡ Done (length cs)) × (cells (walk (rules_of t p) depth 0 i n) ≡ cs)
+      → (writes t p i n room ≡ Ok (length cs)) × (cells (walk (rules_of t p) depth 0 i n) ≡ cs)
   case_written n room cs q c f = (writes_is t p a i l n room cs q c.shows (omega (arith, c.few)), rw c.shows (cells_map cs))
 
   -- ---- 4. a case followed by anything
@@ -73,14 +72,14 @@ module _ (t p : List ℕ) (a : verdict t p ≡ Accepted) (i : ℕ) (l : i < node
 
   -- so `read`, which is for a whole case, refuses it
   pub longer_refused : (n : ℕ) (cs : List ℕ) (c : ℕ) (more : List ℕ) → Asked (rules_of t p i).size n → Case (rules_of t p) i n cs
-      → reads t p i (cs ++ (c ∷ more)) ≡ Refused NotACase 0
+      → reads t p i (cs ++ (c ∷ more)) ≡ refused NotACase 0
   longer_refused n cs c more q k = reads_is t p a i l (cs ++ (c ∷ more)) ∙ left_over _ (reads_on (c ∷ more) q k)
 
   -- ---- 1. written, then read
-  case_read : (n : ℕ) (cs : List ℕ) → Asked (rules_of t p i).size n → Case (rules_of t p) i n cs → reads t p i cs ≡ Number n
+  case_read : (n : ℕ) (cs : List ℕ) → Asked (rules_of t p i).size n → Case (rules_of t p) i n cs → reads t p i cs ≡ Ok n
   case_read n cs q c = reads_is t p a i l cs ∙ number_found _ n (most - length cs) (rw append-nil at (reads_on [] q c)) q.small
 
-  pub written_then_read : (n room k : ℕ) → writes t p i n room ≡ Done k → reads t p i (cells (walk (rules_of t p) depth 0 i n)) ≡ Number n
+  pub written_then_read : (n room k : ℕ) → writes t p i n room ≡ Ok k → reads t p i (cells (walk (rules_of t p) depth 0 i n)) ≡ Ok n
   written_then_read n room k e = case_read n _ (writes_done t p i n room k e).0 (case_of n room k e)
 
   -- ---- 3. nothing else is accepted
@@ -90,27 +89,27 @@ module _ (t p : List ℕ) (a : verdict t p ≡ Accepted) (i : ℕ) (l : i < node
       let (b, w) = only z (nodes t) (rules_of t p) good depth 0 i l most cs r in
       (w.ws, record { below = subst (Below n) (good.sized i l) b; small = s }, record { shows = w.shows; few = omega (arith, w.room) }, w.stands)
 
-  pub only_cases : (n : ℕ) (cs : List ℕ) → reads t p i cs ≡ Number n → Asked (rules_of t p i).size n × Case (rules_of t p) i n cs
+  pub only_cases : (n : ℕ) (cs : List ℕ) → reads t p i cs ≡ Ok n → Asked (rules_of t p i).size n × Case (rules_of t p) i n cs
   only_cases n cs e =
       let (q, r, s) = found_number _ n (sym (reads_is t p a i l cs) ∙ e) in
       let (ws, k, c, same) = read_case r s in
       (k, subst (Case (rules_of t p) i n) (sym (same ∙ append-nil ws)) c)
 
-  pub one_case : (n : ℕ) (cs ds : List ℕ) → reads t p i cs ≡ Number n → reads t p i ds ≡ Number n → cs ≡ ds
+  pub one_case : (n : ℕ) (cs ds : List ℕ) → reads t p i cs ≡ Ok n → reads t p i ds ≡ Ok n → cs ≡ ds
   one_case n cs ds e f =
       let (q, c) = only_cases n cs e in
       let (r, d) = only_cases n ds f in
       sym (case_written n (length cs) cs q c (omega arith)).1 ∙ (case_written n (length ds) ds r d (omega arith)).1
 
-  pub one_number : (m n : ℕ) (cs : List ℕ) → reads t p i cs ≡ Number m → reads t p i cs ≡ Number n → m ≡ n
-  one_number m n cs e f = let g : Number m ≡ Number n = sym e ∙ f in cc
+  pub one_number : (m n : ℕ) (cs : List ℕ) → reads t p i cs ≡ Ok m → reads t p i cs ≡ Ok n → m ≡ n
+  one_number m n cs e f = let g : ◌≡◌ {A = Found} (Ok m) (Ok n) = sym e ∙ f in cc
 
   -- ---- 2. read, then written
-  pub read_then_written : (n room : ℕ) (cs : List ℕ) → reads t p i cs ≡ Number n → length cs ≤ room
-      → (writes t p i n room ≡ Done (length cs)) × (cells (walk (rules_of t p) depth 0 i n) ≡ cs)
+  pub read_then_written : (n room : ℕ) (cs : List ℕ) → reads t p i cs ≡ Ok n → length cs ≤ room
+      → (writes t p i n room ≡ Ok (length cs)) × (cells (walk (rules_of t p) depth 0 i n) ≡ cs)
   read_then_written n room cs e f = let (q, c) = only_cases n cs e in case_written n room cs q c f
 
-  pub no_beginning : (m n : ℕ) (cs more : List ℕ) → reads t p i cs ≡ Number m → reads t p i (cs ++ more) ≡ Number n → (more ≡ []) × (m ≡ n)
+  pub no_beginning : (m n : ℕ) (cs more : List ℕ) → reads t p i cs ≡ Ok m → reads t p i (cs ++ more) ≡ Ok n → (more ≡ []) × (m ≡ n)
   no_beginning m n cs more e f =
       let (q, c) = only_cases m cs e in
       let (r, d) = only_cases n (cs ++ more) f in

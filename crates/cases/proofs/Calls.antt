@@ -6,55 +6,51 @@ use mathlib.Core.Path.{◌≡◌, refl, sym, ap, ◌∙◌}
 use mathlib.Core.List.{List}
 use Prim.Native.Nat.{ℕ}
 use lib.ListN.{length}
+use Rattle.std.specs.Prelude.{Result, Ok, Err}
+use Rattle.grammar.specs.Refusals.{Verdict, refused}
 use Rattle.grammar.specs.declared.refusal.Refusal.{Refusal}
-use Rattle.grammar.specs.declared.refusal.Verdict.{Verdict}
-use Rattle.grammar.specs.declared.refusal.Verdict.TheVariants.{Accepted, Refused as Refuses}
+use Rattle.grammar.specs.declared.refusal.Refused.{Refused}
 use Rattle.grammar.specs.Plan.{rule_in}
 use Rattle.checked.specs.Opening.{Opens}
 use Rattle.checked.specs.Item.{whole, Stood}
-use Rattle.checked.specs.Fits.{Placed}
+use Rattle.checked.specs.Fits.{Fit, Placed}
 use Rattle.checked.specs.declared.item.Item.{Item}
-use Rattle.checked.specs.declared.item.Item.TheVariants.{Number as Reads, Not as Not-read}
-use Rattle.checked.specs.declared.fits.Fit.{Fit}
-use Rattle.checked.specs.declared.fits.Fit.TheVariants.{Cells, Not}
 use Rattle.checked.proofs.Standing.{stood}
 use Rattle.cases.specs.Read.{found, reads, read_of, read_says}
 use Rattle.cases.specs.Write.{wrote, writes, written, write_says, Wrote}
-use Rattle.cases.specs.declared.reading.Found.TheVariants.{Number, Refused as Not-found}
-use Rattle.cases.specs.declared.writing.Written.TheVariants.{Done, Refused}
 
 -- ---- read
 module _ {t p plan : List ℕ} {i : ℕ} {v : Verdict} (h : Opens t p plan i v) (cs : List ℕ) where
-  pub read_refused : {r : Refusal} {k : ℕ} → v ≡ Refuses r k → read_of (Not-found r k) ≡ read_says t p i cs
+  pub read_refused : {e : Refused} → v ≡ Err e → read_of (Err e) ≡ read_says t p i cs
   unfolding reads read_says
-  read_refused e = rw (← h.is, e)
+  read_refused q = rw (← h.is, q)
 
-  module _ (a : v ≡ Accepted) {r : Item} (w : Stood (whole (rule_in plan p) i cs) cs 0 r) where
+  module _ {u : Unit {0}} (a : v ≡ Ok u) {r : Result Item Refusal} (w : Stood (whole (rule_in plan p) i cs) cs 0 r) where
     read_is : reads t p i cs ≡ found (whole (rule_in plan p) i cs)
     unfolding reads
     read_is = rw (← h.is, a, (h.ready a).rules)
 
-    pub read_number : {n next : ℕ} → r ≡ Reads n next → read_of (Number n) ≡ read_says t p i cs
+    pub read_number : {k : Item} → r ≡ Ok k → read_of (Ok k.number) ≡ read_says t p i cs
     unfolding read_says
     read_number q = rw (read_is, (stood w q).0)
 
-    pub read_not : {x : Refusal} → r ≡ Not-read x → read_of (Not-found x 0) ≡ read_says t p i cs
+    pub read_not : {x : Refusal} → r ≡ Err x → read_of (refused x 0) ≡ read_says t p i cs
     unfolding read_says
     read_not q = rw (read_is, stood w q)
 
 -- ---- write
 module _ {t p plan : List ℕ} {i : ℕ} {v : Verdict} (h : Opens t p plan i v) {n : ℕ} {old : List ℕ} where
-  pub wrote_refused : {r : Refusal} {k : ℕ} → v ≡ Refuses r k → Wrote t p i n old old (Refused r k)
+  pub wrote_refused : {e : Refused} → v ≡ Err e → Wrote t p i n old old (Err e)
   unfolding writes write_says
-  wrote_refused e = record { says = rw (← h.is, e); holds = refl }
+  wrote_refused q = record { says = rw (← h.is, q); holds = refl }
 
-  module _ (a : v ≡ Accepted) {last : List ℕ} {f : Fit} (w : Placed (rule_in plan p) i n old last f) where
+  module _ {u : Unit {0}} (a : v ≡ Ok u) {last : List ℕ} {f : Fit} (w : Placed (rule_in plan p) i n old last f) where
     says : {k : Fit} → f ≡ k → written (wrote k) ≡ write_says t p i n (length old)
     unfolding writes write_says
     says q = ap written (rw (← h.is, a, ← (h.ready a).rules) (ap wrote (sym q ∙ w.is)))
 
-    pub wrote_cells : {k : ℕ} → f ≡ Cells k → Wrote t p i n old last (Done k)
+    pub wrote_cells : {k : ℕ} → f ≡ Ok k → Wrote t p i n old last (Ok k)
     wrote_cells q = record { says = says q; holds = rw (q, (h.ready a).rules) at w.holds }
 
-    pub wrote_not : {x : Refusal} → f ≡ Not x → Wrote t p i n old last (Refused x 0)
+    pub wrote_not : {x : Refusal} → f ≡ Err x → Wrote t p i n old last (refused x 0)
     wrote_not q = record { says = says q; holds = rw q at w.holds }

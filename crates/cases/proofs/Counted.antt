@@ -1,5 +1,5 @@
 -- What is known by the answer of `write`.
---   written_fits    the answer Done: no more cells than words were lent
+--   written_fits    the answer Ok: no more cells than words were lent
 --   written_size    the count is that of the case's cells
 --   written_cells   the words that it counts are the case's cells
 -- Assumes nothing.
@@ -11,13 +11,12 @@ use lib.ListN.{length, take}
 use Rattle.grammar.specs.Sizes.{rules_of}
 use Rattle.checked.specs.Fits.{case_cells}
 use Rattle.checked.proofs.Copying.{counted}
-use Rattle.cases.specs.Write.{leaves, Wrote}
-use Rattle.cases.specs.declared.writing.Written.{Written}
-use Rattle.cases.specs.declared.writing.Written.TheVariants.{Done}
+use Rattle.cases.specs.Write.{Written, leaves, Wrote}
+use Rattle.std.specs.Prelude.{Ok}
 use Rattle.cases.proofs.Values.{wrote_is}
 use Rattle.cases.proofs.WalkAnswers.{writes_done}
 
-module _ {t p : List ℕ} {i n : ℕ} {old last : List ℕ} {r : Written} (k : Wrote t p i n old last r) (count : ℕ) (e : r ≡ Done count) where
+module _ {t p : List ℕ} {i n : ℕ} {old last : List ℕ} {r : Written} (k : Wrote t p i n old last r) (count : ℕ) (e : r ≡ Ok count) where
   tells : (count ≤ length old) × (count ≡ length (case_cells (rules_of t p) i n))
   tells = let (_, s, c, f) = writes_done t p i n (length old) count (sym (wrote_is k) ∙ e) in (omega arith, sym c)
 

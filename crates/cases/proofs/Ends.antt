@@ -12,7 +12,7 @@ use Rattle.grammar.specs.Table.{nodes}
 use Rattle.grammar.specs.Sizes.{size_at, sizes, rules_of}
 use Rattle.grammar.specs.Steps.{Leads, Step, Unguarded, ExceptOnCycle}
 use Rattle.grammar.specs.Verdict.{leads, verdict}
-use Rattle.grammar.specs.declared.refusal.Verdict.TheVariants.{Accepted}
+use Rattle.grammar.specs.Refusals.{accepted}
 use Rattle.cycles.proofs.Steps.{step_to}
 use Rattle.walk.specs.Walk.{cell, walk}
 use Rattle.walk.proofs.Ends.{Ranked}
@@ -20,7 +20,7 @@ use Rattle.walk.proofs.Ends as Ending
 use Rattle.cases.proofs.Meaning.{leads_is, accepted_means, accepted_long, accepted_passes, accepted_checked}
 use Rattle.cases.proofs.Ranks.{rank, rank_falls, held, held_le, held_falls}
 
-module _ (t p : List ℕ) (a : verdict t p ≡ Accepted) where
+module _ (t p : List ℕ) (a : verdict t p ≡ accepted) where
   abbrev z : ℕ → Size
   z = size_at (sizes t p)
 

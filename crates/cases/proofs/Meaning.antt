@@ -29,7 +29,7 @@ use Rattle.grammar.specs.Steps.{Leads, Unguarded, ExceptOnCycle}
 use Rattle.grammar.specs.Verdict.{leads, unguarded, except_on_cycle, cycles, settled, verdict}
 use Rattle.grammar.specs.declared.refusal.Refusal.{Refusal}
 use Rattle.grammar.specs.declared.refusal.Refusal.TheVariants.{Length, Unguarded as Rule9, ExceptOnCycle as Rule10}
-use Rattle.grammar.specs.declared.refusal.Verdict.TheVariants.{Accepted, Refused}
+use Rattle.grammar.specs.Refusals.{accepted, refused}
 use Rattle.numbers.proofs.Tests.{and_left, and_right}
 use Rattle.grammar.proofs.Checked.{checked_of}
 use Rattle.cycles.proofs.Table.{graph, unguarded_is, except_is, cycles_by}
@@ -56,19 +56,19 @@ module _ (t p : List ℕ) {zs : List Size} (long : lengths t p ≡ true) (pass :
   unfolding verdict settled
   verdict_is = rw (long, pass)
 
-  pub verdict_9 : (n : ℕ) → n < 256 → Lowest (Unguarded t p (size_at zs)) n → verdict t p ≡ Refused Rule9 n
+  pub verdict_9 : (n : ℕ) → n < 256 → Lowest (Unguarded t p (size_at zs)) n → verdict t p ≡ refused Rule9 n
   verdict_9 n l w = verdict_is ∙ sym (rw (lt-ltb n 256 l) at (cycles_by table_checked w (except_is table_checked)))
 
-  pub verdict_10 : (n : ℕ) → n < 256 → Lowest (Unguarded t p (size_at zs)) 256 → Lowest (ExceptOnCycle t p (size_at zs)) n → verdict t p ≡ Refused Rule10 n
+  pub verdict_10 : (n : ℕ) → n < 256 → Lowest (Unguarded t p (size_at zs)) 256 → Lowest (ExceptOnCycle t p (size_at zs)) n → verdict t p ≡ refused Rule10 n
   verdict_10 n l v w = verdict_is ∙ sym (rw (lt-ltb n 256 l) at (cycles_by table_checked v w))
 
-  pub verdict_accepted : Lowest (Unguarded t p (size_at zs)) 256 → Lowest (ExceptOnCycle t p (size_at zs)) 256 → verdict t p ≡ Accepted
+  pub verdict_accepted : Lowest (Unguarded t p (size_at zs)) 256 → Lowest (ExceptOnCycle t p (size_at zs)) 256 → verdict t p ≡ accepted
   verdict_accepted v w = verdict_is ∙ sym (cycles_by table_checked v w)
 
-  never : {r : Refusal} {n : ℕ} → verdict t p ≡ Accepted → verdict t p ≡ Refused r n → ⊥
+  never : {r : Refusal} {n : ℕ} → verdict t p ≡ accepted → verdict t p ≡ refused r n → ⊥
   never a e = refused_not (sym e ∙ a)
 
-  pub accepted_means : verdict t p ≡ Accepted → Lowest (Unguarded t p (size_at zs)) 256 × Lowest (ExceptOnCycle t p (size_at zs)) 256
+  pub accepted_means : verdict t p ≡ accepted → Lowest (Unguarded t p (size_at zs)) 256 × Lowest (ExceptOnCycle t p (size_at zs)) 256
   accepted_means a =
       let u = unguarded_is table_checked in
       let x = except_is table_checked in
@@ -77,14 +77,14 @@ module _ (t p : List ℕ) {zs : List Size} (long : lengths t p ≡ true) (pass :
       (none, ⊎_elim (lowest_256 x) (λ l. absurd (never a (verdict_10 _ l none x))) (le_or_lt 256 (except_on_cycle t p (size_at zs))))
 
 -- ---- an accepted table
-module _ (t p : List ℕ) (a : verdict t p ≡ Accepted) where
+module _ (t p : List ℕ) (a : verdict t p ≡ accepted) where
   pub accepted_long : lengths t p ≡ true
   unfolding verdict
   accepted_long = by (lengths t p) refl
     where
       by : (q : Bool) → lengths t p ≡ q → lengths t p ≡ true
       by true e = e
-      by false e = let w : verdict t p ≡ Refused Length 0 = rw e in absurd (refused_not (sym w ∙ a))
+      by false e = let w : verdict t p ≡ refused Length 0 = rw e in absurd (refused_not (sym w ∙ a))
 
   pub accepted_passes : scan t p (nodes t) ≡ passed (sizes t p)
   unfolding verdict settled sizes
@@ -92,7 +92,7 @@ module _ (t p : List ℕ) (a : verdict t p ≡ Accepted) where
     where
       by : (s : Scan) → scan t p (nodes t) ≡ s → scan t p (nodes t) ≡ passed (sizes_in (scan t p (nodes t)))
       by (passed zs) e = rw e
-      by (Scan.faulty r k) e = let w : verdict t p ≡ Refused r k = rw (accepted_long, e) in absurd (refused_not (sym w ∙ a))
+      by (Scan.faulty r k) e = let w : verdict t p ≡ refused r k = rw (accepted_long, e) in absurd (refused_not (sym w ∙ a))
 
   pub accepted_checked : Checked t p (size_at (sizes t p))
   accepted_checked = table_checked t p accepted_long accepted_passes

@@ -8,14 +8,11 @@ use mathlib.Core.List.{List}
 use Prim.Native.Nat.{ℕ}
 use lib.ListN.{length}
 use Rattle.grammar.specs.Verdict.{verdict, answer, check_says}
-use Rattle.grammar.specs.declared.refusal.Verdict.{Verdict}
+use Rattle.std.specs.Prelude.{Ok, Err}
+use Rattle.grammar.specs.Refusals.{Verdict, refused}
 use Rattle.grammar.proofs.Values.{by_refusal, refused_back, answer_one}
-use Rattle.cases.specs.Write.{writes, WriteAnswer, written, write_says, Wrote}
-use Rattle.cases.specs.Read.{reads, ReadAnswer, read_of, read_says}
-use Rattle.cases.specs.declared.writing.Written.{Written}
-use Rattle.cases.specs.declared.writing.Written.TheVariants.{Done, Refused}
-use Rattle.cases.specs.declared.reading.Found.{Found}
-use Rattle.cases.specs.declared.reading.Found.TheVariants.{Number, Refused as Not-found}
+use Rattle.cases.specs.Write.{Written, writes, WriteAnswer, written, write_says, Wrote}
+use Rattle.cases.specs.Read.{Found, reads, ReadAnswer, read_of, read_says}
 
 -- ---- check
 pub check_is : (t p : List ℕ) {v : Verdict} → answer v ≡ check_says t p → v ≡ verdict t p
@@ -24,12 +21,12 @@ check_is t p {v} e = answer_one v (verdict t p) e
 
 -- ---- write
 written_of : WriteAnswer → Written
-written_of a = by_refusal a.refusal (Done a.cells) (λ r. Refused r a.node)
+written_of a = by_refusal a.refusal (Ok a.cells) (λ r. refused r a.node)
 
 written_back : (w : Written) → written_of (written w) ≡ w
 unfolding written written_of
-written_back (Done k) = refl
-written_back (Refused r k) = refused_back (Done 0) (λ r. Refused r k) r
+written_back (Ok k) = refl
+written_back (Err e) = refused_back (Ok 0) (λ r. refused r e.node) e.refusal
 
 written_one : (w x : Written) → written w ≡ written x → w ≡ x
 written_one w x e = sym (written_back w) ∙ ap written_of e ∙ written_back x
@@ -40,12 +37,12 @@ wrote_is {t} {p} {i} {n} {old} {last} {r} h = written_one r (writes t p i n (len
 
 -- ---- read
 found_of : ReadAnswer → Found
-found_of a = by_refusal a.refusal (Number a.number) (λ r. Not-found r a.node)
+found_of a = by_refusal a.refusal (Ok a.number) (λ r. refused r a.node)
 
 found_back : (f : Found) → found_of (read_of f) ≡ f
 unfolding read_of found_of
-found_back (Number n) = refl
-found_back (Not-found r k) = refused_back (Number 0) (λ r. Not-found r k) r
+found_back (Ok n) = refl
+found_back (Err e) = refused_back (Ok 0) (λ r. refused r e.node) e.refusal
 
 pub found_one : (f g : Found) → read_of f ≡ read_of g → f ≡ g
 found_one f g e = sym (found_back f) ∙ ap found_of e ∙ found_back g

@@ -8,12 +8,12 @@ ghost use Rattle.std.specs.Prelude.{◌≡◌};
 ghost use Rattle.grammar.specs.Verdict.{answer, check_says};
 
 use checked::prepared::{PLAN, SMALL, SMALL_PLAN, prepare};
-pub use grammar::refusal::{Refusal, Verdict, number_of};
-pub use reading::{Found, read};
-pub use writing::{Written, write};
+pub use grammar::refusal::{Refusal, Refused, number_of};
+pub use reading::read;
+pub use writing::write;
 
-// Whether a table is a grammar: accepted, or the refusal and its node.
-pub fn check(table: &[u64], pool: &[u64]) -> Verdict
+// Whether a table is a grammar: Ok, or the refusal and its node.
+pub fn check(table: &[u64], pool: &[u64]) -> Result<(), Refused>
     ensures { answer result ≡ check_says table.now pool.now }
 {
     if table.len() <= SMALL {

@@ -3,17 +3,9 @@ ghost use Rattle.checked.specs.Prepared.{Blank};
 ghost use Rattle.cases.specs.Write.{Wrote};
 
 use checked::case::write_case;
-use checked::fits::Fit;
 use checked::opened::begin;
 use checked::prepared::{PLAN, SMALL, SMALL_PLAN};
-use grammar::refusal::{Refusal, Verdict};
-
-// The count of cells, or the refusal and its node.
-#[derive(Drop)]
-pub enum Written {
-    Done(usize),
-    Refused(Refusal, u64),
-}
+use grammar::refusal::Refused;
 
 // The call over a lent plan.
 fn write_with(
@@ -23,21 +15,23 @@ fn write_with(
     start: usize,
     number: u64,
     cells: &mut [u64],
-) -> Written
+) -> Result<usize, Refused>
     requires { Blank table.now plan.old }
     ensures { Wrote table.now pool.now start number cells.old cells.new result }
 {
-    match begin(table, pool, plan, start) {
-        Verdict::Refused(r, k) => Written::Refused(r, k),
-        Verdict::Accepted => match write_case(pool, plan, start, number, cells) {
-            Fit::Cells(count) => Written::Done(count),
-            Fit::Not(r) => Written::Refused(r, 0),
-        },
-    }
+    begin(table, pool, plan, start)?;
+    let count = write_case(pool, plan, start, number, cells)?;
+    Ok(count)
 }
 
-// The case of a number, written into a lent buffer.
-pub fn write(table: &[u64], pool: &[u64], start: usize, number: u64, cells: &mut [u64]) -> Written
+// The case of a number, written into a lent buffer: the count of its cells, or the refusal and its node.
+pub fn write(
+    table: &[u64],
+    pool: &[u64],
+    start: usize,
+    number: u64,
+    cells: &mut [u64],
+) -> Result<usize, Refused>
     ensures { Wrote table.now pool.now start number cells.old cells.new result }
 {
     if table.len() <= SMALL {

@@ -19,7 +19,7 @@ use Rattle.walk.specs.Walk.{Event, cell, deep, walk, cells, depth}
 use Rattle.walk.specs.Room.{RoomLeft, Left, tallied}
 use Rattle.walk.specs.Room.{TooDeep as Deep, NoRoom as Full}
 use Rattle.checked.specs.Fits.{asked, Asked, room_for, outcome, fitted}
-use Rattle.checked.specs.declared.fits.Fit.TheVariants.{Cells}
+use Rattle.std.specs.Prelude.{Ok}
 use Rattle.numbers.proofs.Tests.{and_left, and_right, pick_by}
 use Rattle.walk.proofs.Rooms.{tally_count}
 
@@ -37,7 +37,7 @@ was_asked (finite m) n e = record {
 was_asked endless n e = record { below = tt; small = ltb-true n (2 ^ 62) e }
 
 -- an answer with a count
-pub cells_left : (room k : ℕ) (x : RoomLeft) → outcome room x ≡ Cells k → (rest : ℕ) × (x ≡ Left rest) × (k ≡ room - rest)
+pub cells_left : (room k : ℕ) (x : RoomLeft) → outcome room x ≡ Ok k → (rest : ℕ) × (x ≡ Left rest) × (k ≡ room - rest)
 cells_left room k (Left rest) e = let s : room - rest ≡ k = cc in (rest, refl, sym s)
 cells_left room k Deep e = let z : ◌≡◌ {A = ℕ} 0 1 = cc in absurd (omega arith)
 cells_left room k Full e = let z : ◌≡◌ {A = ℕ} 0 1 = cc in absurd (omega arith)
@@ -62,7 +62,7 @@ tallied_left zero (cell c ∷ es) e = let z : ◌≡◌ {A = ℕ} 0 1 = cc in ab
 tallied_left (suc room) (cell c ∷ es) e = ap (λ (l : List Event). cell c ∷ l) (tallied_left room es e)
 
 module _ (g : ℕ → Rule) (i n room : ℕ) where
-  pub fitted_is : (cs : List ℕ) → Asked (g i).size n → walk g depth 0 i n ≡ map cell cs → length cs ≤ room_for room → fitted g i n room ≡ Cells (length cs)
+  pub fitted_is : (cs : List ℕ) → Asked (g i).size n → walk g depth 0 i n ≡ map cell cs → length cs ≤ room_for room → fitted g i n room ≡ Ok (length cs)
   unfolding fitted
   fitted_is cs q e k =
       let s : room_for room - (room_for room - length cs) ≡ length cs = omega arith in
@@ -72,9 +72,9 @@ module _ (g : ℕ → Rule) (i n room : ℕ) where
   abbrev pub Counts : ℕ → Type 0
   Counts k = Asked (g i).size n × (walk g depth 0 i n ≡ map cell (cells (walk g depth 0 i n))) × (length (cells (walk g depth 0 i n)) ≡ k) × (k ≤ room_for room)
 
-  pub fitted_cells : (k : ℕ) → fitted g i n room ≡ Cells k → Counts k
+  pub fitted_cells : (k : ℕ) → fitted g i n room ≡ Ok k → Counts k
   unfolding fitted
-  fitted_cells k e = pick_by (λ f. f ≡ Cells k → Counts k) (asked (g i).size n) (λ u v.
+  fitted_cells k e = pick_by (λ f. f ≡ Ok k → Counts k) (asked (g i).size n) (λ u v.
       let (rest, f, s) = cells_left (room_for room) k (tallied (room_for room) (walk g depth 0 i n)) v in
       let c = tally_count (room_for room) (walk g depth 0 i n) f in
       (was_asked (g i).size n u, tallied_left (room_for room) (walk g depth 0 i n) f, omega arith, omega arith))

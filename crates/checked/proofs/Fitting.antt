@@ -24,16 +24,15 @@ use Rattle.grammar.specs.declared.refusal.Refusal.TheVariants.{NoSuchNumber}
 use Rattle.grammar.specs.Rule.{Rule}
 use Rattle.grammar.specs.Plan.{rule_in}
 use Rattle.walk.specs.Walk.{walk, cells, depth}
-use Rattle.walk.specs.Room.{tallied}
-use Rattle.walk.specs.Laid.{left_of, Laid}
+use Rattle.walk.specs.Room.{RoomLeft, tallied}
+use Rattle.walk.specs.Laid.{Laid}
 use Rattle.lists.specs.Filled.{over}
 use Rattle.lists.proofs.Fills.{over_long}
 use Rattle.walk.proofs.Rooms.{tally_count}
 use Rattle.walk.specs.Plan.{Visits, Reading}
 use Rattle.laying.specs.Sure.{Sure}
-use Rattle.checked.specs.Fits.{asked, Asked, room_for, case_cells, outcome, fitted, FitOver, places, Placed}
-use Rattle.checked.specs.declared.fits.Fit.{Fit}
-use Rattle.checked.specs.declared.fits.Fit.TheVariants.{Cells, Not}
+use Rattle.checked.specs.Fits.{asked, Asked, room_for, Fit, case_cells, outcome, fitted, FitOver, places, Placed}
+use Rattle.std.specs.Prelude.{Ok, Err}
 use Rattle.checked.proofs.Fitted.{was_asked, cells_left, fitted_is}
 
 -- ---- a number against the word of a size
@@ -51,7 +50,7 @@ module _ {plan p : List ℕ} {i : ℕ} (h : Reading plan p i) (n : ℕ) {b : Boo
   asked_here = a ∙ ap (λ (s : Size). asked s n) (h.walks.good.sized i h.node)
 
   -- ---- refused before the walk
-  pub decided_12 : (room : ℕ) → b ≡ false → Not NoSuchNumber ≡ fitted (rule_in plan p) i n room
+  pub decided_12 : (room : ℕ) → b ≡ false → Err NoSuchNumber ≡ fitted (rule_in plan p) i n room
   unfolding fitted
   decided_12 room e = rw (← asked_here, e)
 
@@ -66,8 +65,8 @@ module _ {plan p : List ℕ} {i : ℕ} (h : Reading plan p i) (n : ℕ) {b : Boo
     pub visits_of : Visits plan p i n
     visits_of = record { walks = h.walks; node = h.node; below = subst (Below n) (sym (h.walks.good.sized i h.node)) may.below }
 
-    pub decided_walk : (room : ℕ) {most : ℕ} (w : ℕ) {f : Fit} → most ≡ room_for room → f ≡ outcome most (left_of w)
-        → left_of w ≡ tallied most (walk (rule_in plan p) depth 0 i n) → f ≡ fitted (rule_in plan p) i n room
+    pub decided_walk : (room : ℕ) {most : ℕ} (w : RoomLeft) {f : Fit} → most ≡ room_for room → f ≡ outcome most w
+        → w ≡ tallied most (walk (rule_in plan p) depth 0 i n) → f ≡ fitted (rule_in plan p) i n room
     unfolding fitted
     decided_walk room w m e l = e ∙ rw (is_so, l, m)
 
@@ -83,7 +82,7 @@ over_part (c ∷ cs) [] (suc k) l = refl
 over_part (c ∷ cs) (x ∷ old) (suc k) l = ap (λ (xs : List ℕ). c ∷ xs) (over_part cs old k (le_of_suc-le-suc l))
 
 module _ {plan p : List ℕ} {i : ℕ} (h : Reading plan p i) (n : ℕ) {b : Bool} (a : b ≡ asked (size_of (get_or plan (4 * i + 3) 0)) n) (old : List ℕ) where
-  pub fits_12 : b ≡ false → FitOver (rule_in plan p) i n old old (Not NoSuchNumber)
+  pub fits_12 : b ≡ false → FitOver (rule_in plan p) i n old old (Err NoSuchNumber)
   fits_12 e = record {
     is = decided_12 h n a (length old) e;
     long = refl;
@@ -92,21 +91,21 @@ module _ {plan p : List ℕ} {i : ℕ} (h : Reading plan p i) (n : ℕ) {b : Boo
   }
 
   -- the front of the buffer, as long as a case may be, is lent on
-  module _ (yes : b ≡ true) {most : ℕ} (w : ℕ) {f : Fit} (m : most ≡ room_for (length old)) (e : f ≡ outcome most (left_of w)) where
-    pub fits_long : {part : List ℕ} → Laid (length (take most old)) (walk (rule_in plan p) depth 0 i n) (take most old) part (left_of w)
+  module _ (yes : b ≡ true) {most : ℕ} (w : RoomLeft) {f : Fit} (m : most ≡ room_for (length old)) (e : f ≡ outcome most w) where
+    pub fits_long : {part : List ℕ} → Laid (length (take most old)) (walk (rule_in plan p) depth 0 i n) (take most old) part w
         → length (part ++ drop most old) ≡ length old
     fits_long l = simp length-append (omega (arith, l.long, lent_long old m, length-drop most old, m))
 
-    pub fits_walk : {part last : List ℕ} → Laid (length (take most old)) (walk (rule_in plan p) depth 0 i n) (take most old) part (left_of w)
+    pub fits_walk : {part last : List ℕ} → Laid (length (take most old)) (walk (rule_in plan p) depth 0 i n) (take most old) part w
         → last ≡ part ++ drop most old → FitOver (rule_in plan p) i n old last f
     fits_walk {part} {last} l g =
         let long : length (take most old) ≡ most = sym (lent_long old m) in
-        let is : left_of w ≡ tallied most (walk (rule_in plan p) depth 0 i n) = rw long at l.is in
+        let is : w ≡ tallied most (walk (rule_in plan p) depth 0 i n) = rw long at l.is in
         record {
           is = decided_walk h n a yes (length old) w m e is;
           long = rw g (fits_long l);
           holds = λ k q.
-              let (rest, x, y) = cells_left most k (left_of w) (sym e ∙ q) in
+              let (rest, x, y) = cells_left most k w (sym e ∙ q) in
               let count = tally_count most (walk (rule_in plan p) depth 0 i n) (sym is ∙ x) in
               g ∙ (ap (λ (xs : List ℕ). xs ++ drop most old) (l.holds rest x) ∙ over_part (cells (walk (rule_in plan p) depth 0 i n)) old most (omega arith));
           kept = λ u. absurd (false≢true (sym u ∙ is_so h n a yes));
@@ -115,10 +114,10 @@ module _ {plan p : List ℕ} {i : ℕ} (h : Reading plan p i) (n : ℕ) {b : Boo
 -- ---- a case that is written whole or not at all
 -- a number that may be refused by 12 alone, since 13 and 14 are decided before anything is written
 abbrev Settled : (ℕ → Rule) → ℕ → ℕ → ℕ → Type 0
-Settled g i n room = (r : Refusal) → fitted g i n room ≡ Not r → asked (g i).size n ≡ false
+Settled g i n room = (r : Refusal) → fitted g i n room ≡ Err r → asked (g i).size n ≡ false
 
 -- a number whose cells are counted is settled
-pub settled_cells : (g : ℕ → Rule) (i n room : ℕ) {f : Fit} → f ≡ fitted g i n room → {k : ℕ} → f ≡ Cells k → Settled g i n room
+pub settled_cells : (g : ℕ → Rule) (i n room : ℕ) {f : Fit} → f ≡ fitted g i n room → {k : ℕ} → f ≡ Ok k → Settled g i n room
 settled_cells g i n room e q = λ r u. let z : ◌≡◌ {A = ℕ} 0 1 = cc in absurd (omega arith)
 
 -- where every case fits, the only refusal is 12
@@ -132,7 +131,7 @@ settled_sure {plan} {p} {i} h n old m s r q = by (asked (rule_in plan p i).size 
         let a = was_asked (rule_in plan p i).size n u in
         let b = subst (Below n) (sym (h.walks.good.sized i h.node)) a.below in
         let w = s.fits p n (record { walks = h.walks; node = h.node; below = b }) in
-        let k : fitted (rule_in plan p) i n (length old) ≡ Cells (length w.case) = fitted_is (rule_in plan p) i n (length old) w.case a w.shows
+        let k : fitted (rule_in plan p) i n (length old) ≡ Ok (length w.case) = fitted_is (rule_in plan p) i n (length old) w.case a w.shows
         (omega (arith, w.few, m)) in
         let z : ◌≡◌ {A = ℕ} 0 1 = cc in
         absurd (omega arith)
@@ -142,12 +141,12 @@ module _ {g : ℕ → Rule} {i n : ℕ} {old : List ℕ} where
   placed {last} {f} s e = record { is = e.is; holds = by f refl }
     where
       by : (r : Fit) → f ≡ r → last ≡ places f (case_cells g i n) old
-      by (Cells k) q = rw q (e.holds k q)
-      by (Not r) q = rw q (e.kept (s r (sym e.is ∙ q)))
+      by (Ok k) q = rw q (e.holds k q)
+      by (Err r) q = rw q (e.kept (s r (sym e.is ∙ q)))
 
-  pub placed_not : {f : Fit} → f ≡ fitted g i n (length old) → {r : Refusal} → f ≡ Not r → Placed g i n old old (Not r)
+  pub placed_not : {f : Fit} → f ≡ fitted g i n (length old) → {r : Refusal} → f ≡ Err r → Placed g i n old old (Err r)
   placed_not e q = record { is = sym q ∙ e; holds = refl }
 
   pub placed_long : {last : List ℕ} {f : Fit} → Placed g i n old last f → length last ≡ length old
-  placed_long {f = Cells k} w = over_long (case_cells g i n) old w.holds
-  placed_long {f = Not r} w = ap length w.holds
+  placed_long {f = Ok k} w = over_long (case_cells g i n) old w.holds
+  placed_long {f = Err r} w = ap length w.holds

@@ -1,5 +1,5 @@
 -- What the code of `prepare` and of `begin` has found, in the words of their promises.
---   prepared_length   the lengths are not as they must be
+--   lengths_are, prepared_length   the lengths are as they must be, or not
 --   prepared_fault    a node is refused
 --   prepared_cycles   the nodes pass, and the verdict is that on cycles
 --   opens_refused     the table is refused
@@ -8,16 +8,16 @@
 --   judged_past       what an answer says that no refusal is
 --   opens, opened_means   `begin` accepts exactly an accepted table and a start in it
 -- Assumes nothing.
-use mathlib.Core.Path.{◌≡◌, refl, ap, ◌∙◌}
-use mathlib.Core.Bool.{true, false}
+use mathlib.Core.Path.{◌≡◌, refl, sym, ap, ◌∙◌}
+use mathlib.Core.Bool.{true, false, ◌&&◌}
 use mathlib.Core.List.{List}
 use Prim.Native.Nat.{ℕ, ◌*◌, ◌≤◌, ◌<◌}
 use native.Mathlib.Omega.{arith}
-use lib.Dec.{ltb}
+use lib.Dec.{eqb, leb, ltb}
 use lib.ListN.{length}
-use borrow.Author.Tests.{eq-eqb, le-leb, lt-ltb, le-ltb, ltb-true}
+use borrow.Author.Tests.{eq-eqb, eqb-true, leb-true, le-leb, lt-ltb, le-ltb, ltb-true}
 use Rattle.numbers.specs.Size.{Size}
-use Rattle.numbers.proofs.Tests.{pick_by}
+use Rattle.numbers.proofs.Tests.{pick_by, and_left, and_right}
 use Rattle.grammar.specs.Table.{nodes, lengths}
 use Rattle.grammar.specs.Sizes.{size_at, scan, passed, sizes}
 use Rattle.grammar.specs.Checked.{Checked}
@@ -25,8 +25,9 @@ use Rattle.grammar.specs.Plan.{size_in, Planned, WeighedBy, AllWeighed, Ready}
 use Rattle.grammar.specs.Verdict.{cycles, settled, verdict, answer, check_says}
 use Rattle.grammar.specs.declared.refusal.Refusal.{Refusal}
 use Rattle.grammar.specs.declared.refusal.Refusal.TheVariants.{Length, NoSuchStart}
-use Rattle.grammar.specs.declared.refusal.Verdict.{Verdict}
-use Rattle.grammar.specs.declared.refusal.Verdict.TheVariants.{Accepted, Refused}
+use Rattle.std.specs.Prelude.{Result, Ok, Err}
+use Rattle.grammar.specs.Refusals.{Verdict, accepted, refused}
+use Rattle.grammar.specs.declared.refusal.Refused.{Refused}
 use Rattle.grammar.proofs.Checked.{checked_of}
 use Rattle.grammar.proofs.Values.{answer_one}
 use Rattle.planning.proofs.Plans.{plan_sizes}
@@ -36,12 +37,27 @@ use Rattle.checked.specs.Opening.{judged, opening, Opens}
 use Rattle.checked.proofs.Walking.{same_rules, stands_at}
 
 -- ---- the check
-pub refused_not : {r : Refusal} {k : ℕ} → Refused r k ≡ Accepted → ⊥
+pub refused_not : {e : Refused} → Err e ≡ accepted → ⊥
 refused_not e = let x : ◌≡◌ {A = ℕ} 0 1 = cc in omega arith
 
-pub prepared_length : (t p plan : List ℕ) → lengths t p ≡ false → Prepared t p plan (Refused Length 0)
+pub prepared_length : (t p plan : List ℕ) → false ≡ lengths t p → Prepared t p plan (refused Length 0)
 unfolding verdict check_says
-prepared_length t p plan e = record { says = rw e; ready = λ a. absurd (refused_not a) }
+prepared_length t p plan e = record { says = rw (← e); ready = λ a. absurd (refused_not a) }
+
+-- the lengths are as they must be
+pub lengths_are : (t p : List ℕ) → true ≡ lengths t p → (length t ≡ 3 * nodes t) × (1 ≤ nodes t) × (nodes t ≤ 256) × (length p ≤ 4096)
+lengths_are t p e =
+    let whole = eqb (length t) (3 * nodes t) in
+    let some = leb 1 (nodes t) in
+    let few = leb (nodes t) 256 in
+    let slight = leb (length p) 4096 in
+    let f = and_left ((whole && some) && few) slight (sym e) in
+    let g = and_left (whole && some) few f in (
+      eqb-true (length t) (3 * nodes t) (and_left whole some g),
+      leb-true 1 (nodes t) (and_right whole some g),
+      leb-true (nodes t) 256 (and_right (whole && some) few f),
+      leb-true (length p) 4096 (and_right ((whole && some) && few) slight (sym e)),
+    )
 
 -- what was found by the weighing, at the arm's constructor
 told : {t p plan : List ℕ} {v w : Verdict} → AllWeighed t p plan v → v ≡ w → WeighedBy t p plan w
@@ -52,11 +68,11 @@ module _ {t p plan : List ℕ} {v : Verdict} (a : AllWeighed t p plan v)
   long : lengths t p ≡ true
   long = rw (eq-eqb (length t) (3 * nodes t) l.0, le-leb 1 (nodes t) l.1, le-leb (nodes t) 256 l.2, le-leb (length p) 4096 l.3)
 
-  pub prepared_fault : {r : Refusal} {k : ℕ} → v ≡ Refused r k → Prepared t p plan (Refused r k)
+  pub prepared_fault : {e : Refused} → v ≡ Err e → Prepared t p plan (Err e)
   unfolding verdict settled check_says
-  prepared_fault e = record { says = rw (long, told a e); ready = λ x. absurd (refused_not x) }
+  prepared_fault q = record { says = rw (long, told a q); ready = λ x. absurd (refused_not x) }
 
-  module _ (e : v ≡ Accepted) where
+  module _ {u : Unit {0}} (e : v ≡ Ok u) where
     passes : scan t p (nodes t) ≡ passed (sizes t p)
     passes = (told a e).0
 
@@ -82,38 +98,38 @@ module _ {t p plan : List ℕ} {v : Verdict} (h : Prepared t p plan v) (i : ℕ)
   unfolding check_says
   is = answer_one v (verdict t p) h.says
 
-  pub opens_refused : {r : Refusal} {k : ℕ} → v ≡ Refused r k → Opens t p plan i (Refused r k)
+  pub opens_refused : {e : Refused} → v ≡ Err e → Opens t p plan i (Err e)
   unfolding opening
-  opens_refused e = record { is = rw (← is, e); ready = λ a. absurd (refused_not a) }
+  opens_refused q = record { is = rw (← is, q); ready = λ a. absurd (refused_not a) }
 
-  module _ (e : v ≡ Accepted) where
-    pub opens_11 : nodes t ≤ i → Opens t p plan i (Refused NoSuchStart 0)
+  module _ {u : Unit {0}} (e : v ≡ Ok u) where
+    pub opens_11 : nodes t ≤ i → Opens t p plan i (refused NoSuchStart 0)
     unfolding opening
     opens_11 l = record { is = rw (← is, e, le-ltb i (nodes t) l); ready = λ a. absurd (refused_not a) }
 
-    pub opens_ready : i < nodes t → Opens t p plan i Accepted
+    pub opens_ready : i < nodes t → Opens t p plan i accepted
     unfolding opening
     opens_ready l = record {
       is = rw (← is, e, lt-ltb i (nodes t) l);
       ready = λ a. record { reads = stands_at (h.ready e) l; rules = same_rules (h.ready e) };
     }
 
-pub opened_reads : {t p plan : List ℕ} {i : ℕ} {v : Verdict} → Opens t p plan i v → v ≡ Accepted → Reading plan p i
+pub opened_reads : {t p plan : List ℕ} {i : ℕ} {v : Verdict} {u : Unit {0}} → Opens t p plan i v → v ≡ Ok u → Reading plan p i
 opened_reads h e = (h.ready e).reads
 
 -- an answer that no refusal is comes after the verdict
-pub judged_past : {A : Type 0} (refuses : Refusal → ℕ → A) (v : Verdict) {x y : A} → ((r : Refusal) (k : ℕ) → refuses r k ≡ y → ⊥)
-    → judged refuses v x ≡ y → (v ≡ Accepted) × (x ≡ y)
-judged_past refuses Accepted never e = (refl, e)
-judged_past refuses (Refused r k) never e = absurd (never r k e)
+pub judged_past : {A : Type 0} (refuses : Refused → A) (v : Verdict) {x y : A} → ((r : Refused) → refuses r ≡ y → ⊥)
+    → judged refuses v x ≡ y → (v ≡ accepted) × (x ≡ y)
+judged_past refuses (Ok u) never e = (refl, e)
+judged_past refuses (Err r) never e = absurd (never r e)
 
 -- an accepted table and a start in it
-pub opens : (t p : List ℕ) → verdict t p ≡ Accepted → (i : ℕ) → i < nodes t → opening t p i ≡ Accepted
+pub opens : (t p : List ℕ) → verdict t p ≡ accepted → (i : ℕ) → i < nodes t → opening t p i ≡ accepted
 unfolding opening
 opens t p a i l = rw (a, lt-ltb i (nodes t) l)
 
-pub opened_means : (t p : List ℕ) (i : ℕ) → opening t p i ≡ Accepted → (verdict t p ≡ Accepted) × (i < nodes t)
+pub opened_means : (t p : List ℕ) (i : ℕ) → opening t p i ≡ accepted → (verdict t p ≡ accepted) × (i < nodes t)
 unfolding opening
 opened_means t p i e =
-    let (a, f) = judged_past Refused (verdict t p) (λ r k. refused_not) e in
-    (a, pick_by (λ (v : Verdict). v ≡ Accepted → i < nodes t) (ltb i (nodes t)) (λ u x. ltb-true i (nodes t) u) (λ u x. absurd (refused_not x)) f)
+    let (a, f) = judged_past Err (verdict t p) (λ r. refused_not) e in
+    (a, pick_by (λ (v : Verdict). v ≡ accepted → i < nodes t) (ltb i (nodes t)) (λ u x. ltb-true i (nodes t) u) (λ u x. absurd (refused_not x)) f)

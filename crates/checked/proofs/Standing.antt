@@ -28,7 +28,7 @@ use Rattle.walk.proofs.Ends.{walk_some}
 use Rattle.checked.specs.Fits.{room_for}
 use Rattle.checked.specs.Item.{Front, front_of, front, whole_of, whole, standing, StoodBy, Stood}
 use Rattle.checked.specs.declared.item.Item.{Item}
-use Rattle.checked.specs.declared.item.Item.TheVariants.{Number, Not}
+use Rattle.std.specs.Prelude.{Result, Ok, Err}
 
 take_few : (l : List ℕ) {k : ℕ} → k ≡ room_for (length l) → take k l ≡ take most l
 take_few l {k} e =
@@ -36,7 +36,7 @@ take_few l {k} e =
     (le_or_lt (length l) most)
 
 -- ---- what stands at a place, by the answer's constructor
-pub stood : {f : Front} {cells : List ℕ} {at : ℕ} {r k : Item} → Stood f cells at r → r ≡ k → StoodBy f cells at k
+pub stood : {f : Front} {cells : List ℕ} {at : ℕ} {r k : Result Item Refusal} → Stood f cells at r → r ≡ k → StoodBy f cells at k
 stood {f} {cells} {at} w e = subst (StoodBy f cells at) e w.is
 
 -- ---- the cells that are lent to the walk: as many as a case may have
@@ -59,11 +59,11 @@ module _ (cells : List ℕ) (at : ℕ) {room : ℕ} (f : room ≡ room_for (leng
     took = t.took (drop at cells) most row_most
 
     pub stood_why : 2 ^ 63 < word → {r : Refusal} → r ≡ why_of (leb most (length cells - at)) word → (b : Bool)
-        → Stood (standing b (rule_in plan p) i (drop at cells)) cells at (Not r)
+        → Stood (standing b (rule_in plan p) i (drop at cells)) cells at (Err r)
     unfolding front_of whole_of
     stood_why l {r} g b = record { is = by b took }
       where
-        by : (b : Bool) → Took (2 ^ 62 + 1) walked (drop at cells) most used word → StoodBy (standing b (rule_in plan p) i (drop at cells)) cells at (Not r)
+        by : (b : Bool) → Took (2 ^ 62 + 1) walked (drop at cells) most used word → StoodBy (standing b (rule_in plan p) i (drop at cells)) cells at (Err r)
         by b (exact s e) = absurd (omega (arith, s))
         by b (large s m k e) = absurd (omega arith)
         by true (stops s e) = rw (e, length-drop at cells, g)
@@ -95,7 +95,7 @@ module _ (cells : List ℕ) (at : ℕ) {room : ℕ} (f : room ≡ room_for (leng
           let rest = drop (at + used) cells in
           omega (arith, some, long, ap length s.stands, length-append s.ws rest, length-drop (at + used) cells, length-drop at cells, within)
 
-      pub stood_over : at + used < length cells → Stood (whole (rule_in plan p) i (drop at cells)) cells at (Not NotACase)
+      pub stood_over : at + used < length cells → Stood (whole (rule_in plan p) i (drop at cells)) cells at (Err NotACase)
       unfolding whole_of
       stood_over m = let (n, e, _, _) = met in record { is = rw (e, drop-cons cells (at + used) 0 m) }
 
@@ -109,10 +109,10 @@ module _ (cells : List ℕ) (at : ℕ) {room : ℕ} (f : room ≡ room_for (leng
             by false k = refl
             by true k = let (n, e, _, _) = met in rw (e, drop_of_length-le cells {i = at + used} k)
 
-        pub stood_number : word < 2 ^ 62 → Stood (standing b (rule_in plan p) i (drop at cells)) cells at (Number word (at + used))
+        pub stood_number : word < 2 ^ 62 → Stood (standing b (rule_in plan p) i (drop at cells)) cells at (Ok (record { number = word; next = at + used }))
         unfolding front_of
         stood_number l = let (n, e, s, _) = met in record { is = (no_more ∙ rw (e, s l, lt-ltb word (2 ^ 62) l), on, within) }
 
-        pub stood_large : 2 ^ 62 ≤ word → Stood (standing b (rule_in plan p) i (drop at cells)) cells at (Not NumberTooLarge)
+        pub stood_large : 2 ^ 62 ≤ word → Stood (standing b (rule_in plan p) i (drop at cells)) cells at (Err NumberTooLarge)
         unfolding front_of
         stood_large l = let (n, e, _, s) = met in record { is = no_more ∙ rw (e, le-ltb n (2 ^ 62) (s l)) }

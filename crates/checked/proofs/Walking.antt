@@ -8,7 +8,7 @@ use mathlib.Core.List.{List}
 use Prim.Native.Nat.{ℕ, ◌+◌, ◌*◌, ◌≤◌, ◌<◌}
 use native.Mathlib.Omega.{arith}
 use lib.ListN.{get_or, get_or-eq_default}
-use Rattle.numbers.specs.Size.{Size, Some}
+use Rattle.numbers.specs.Size.{Size, NotZero}
 use Rattle.lists.proofs.Order.{le_or_lt}
 use Rattle.grammar.specs.Table.{kind_of, a_of, b_of, nodes}
 use Rattle.grammar.specs.Kind.{Node, before}
@@ -60,8 +60,8 @@ module _ {t p plan : List ℕ} (h : Planning t p plan) where
   pub good : Good (size_in plan) (nodes t) (rule_in plan p)
   good = rw (same_sizes, same_rules) h.checked.good
 
-  pub some : (k : ℕ) → k < nodes t → Some (size_in plan k)
-  some k l = subst (λ (z : ℕ → Size). Some (z k)) (sym same_sizes) (fit_some (size_at (sizes t p) k) (h.checked.fit k l))
+  pub some : (k : ℕ) → k < nodes t → NotZero (size_in plan k)
+  some k l = subst (λ (z : ℕ → Size). NotZero (z k)) (sym same_sizes) (fit_some (size_at (sizes t p) k) (h.checked.fit k l))
 
   abbrev pub walkable : Walkable plan p
   walkable = record { count = nodes t; long = h.plans.long; good = good; holds = holds; some = some; short = h.short; slight = h.slight }

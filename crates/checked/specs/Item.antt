@@ -5,7 +5,7 @@
 --   standing  one or the other
 --   Stood     the code's answer, with a place for the cells from there on
 -- Assumes nothing.
-use Rattle.std.specs.Prelude.{◌≡◌, Bool, true, false, List, [], ◌∷◌, ℕ, ◌^◌, ◌≤◌, ◌<◌, ltb, length, drop}
+use Rattle.std.specs.Prelude.{◌≡◌, Bool, true, false, List, [], ◌∷◌, ℕ, ◌^◌, ◌≤◌, ◌<◌, ltb, length, drop, Result, Ok, Err}
 use Rattle.numbers.specs.Pick.{pick}
 use Rattle.grammar.specs.declared.refusal.Refusal.{Refusal}
 use Rattle.grammar.specs.declared.refusal.Refusal.TheVariants.{NotACase, NumberTooLarge}
@@ -14,7 +14,6 @@ use Rattle.walk.specs.Walk.{depth}
 use Rattle.walk.specs.Room.{most}
 use Rattle.walk.specs.Run.{Read, read, wrong, run}
 use Rattle.checked.specs.declared.item.Item.{Item}
-use Rattle.checked.specs.declared.item.Item.TheVariants.{Number, Not}
 
 pub data Front : Type 0 where
   number : ℕ → List ℕ → Front
@@ -41,9 +40,9 @@ abbrev pub standing : Bool → (ℕ → Rule) → ℕ → List ℕ → Front
 standing true = whole
 standing false = front
 
-abbrev pub StoodBy : Front → List ℕ → ℕ → Item → Type 0
-StoodBy f cells at (Number n next) = (f ≡ number n (drop next cells)) × (at < next) × (next ≤ length cells)
-StoodBy f cells at (Not r) = f ≡ refused r
+abbrev pub StoodBy : Front → List ℕ → ℕ → Result Item Refusal → Type 0
+StoodBy f cells at (Ok i) = (f ≡ number i.number (drop i.next cells)) × (at < i.next) × (i.next ≤ length cells)
+StoodBy f cells at (Err r) = f ≡ refused r
 
-pub record Stood (f : Front) (cells : List ℕ) (at : ℕ) (r : Item) : Type 0 where
+pub record Stood (f : Front) (cells : List ℕ) (at : ℕ) (r : Result Item Refusal) : Type 0 where
   pub is : StoodBy f cells at r

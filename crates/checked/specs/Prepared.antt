@@ -8,8 +8,7 @@ use Rattle.grammar.specs.Sizes.{size_at, scan, passed, sizes}
 use Rattle.grammar.specs.Checked.{Checked}
 use Rattle.grammar.specs.Plan.{Planned}
 use Rattle.grammar.specs.Verdict.{answer, check_says}
-use Rattle.grammar.specs.declared.refusal.Verdict.{Verdict}
-use Rattle.grammar.specs.declared.refusal.Verdict.TheVariants.{Accepted}
+use Rattle.grammar.specs.Refusals.{Verdict, accepted}
 
 pub record Blank (t plan : List ℕ) : Type 0 where
   pub clear : plan ≡ replicate (length plan) 0
@@ -25,4 +24,4 @@ pub record Planning (t p plan : List ℕ) : Type 0 where
 
 pub record Prepared (t p plan : List ℕ) (v : Verdict) : Type 0 where
   pub says : answer v ≡ check_says t p
-  pub ready : v ≡ Accepted → Planning t p plan
+  pub ready : v ≡ accepted → Planning t p plan

@@ -4,7 +4,8 @@ ghost use Rattle.walk.specs.Plan.{Reading};
 ghost use Rattle.checked.specs.Fits.{Placed};
 
 use super::decided::decided;
-use super::fits::{Fit, fits, room_for};
+use super::fits::{fits, room_for};
+use grammar::refusal::Refusal;
 use laying::sure::sure;
 
 // The first pass decides and writes nothing; where every case of the start fits, there is nothing for it
@@ -15,15 +16,12 @@ pub fn write_case<'a>(
     start: usize,
     number: u64,
     cells: &mut [u64],
-) -> Fit
+) -> Result<usize, Refusal>
     requires { Reading plan.now pool.now start }
     ensures { Placed (rule_in plan.now pool.now) start number cells.old cells.new result }
 {
-    if sure(plan, start, room_for(cells.len())) {
-        return fits(pool, plan, start, number, cells);
+    if !sure(plan, start, room_for(cells.len())) {
+        decided(pool, plan, start, number, cells.len())?;
     }
-    match decided(pool, plan, start, number, cells.len()) {
-        Fit::Cells(_) => fits(pool, plan, start, number, cells),
-        Fit::Not(r) => Fit::Not(r),
-    }
+    fits(pool, plan, start, number, cells)
 }

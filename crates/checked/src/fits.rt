@@ -1,28 +1,22 @@
 // One number on a checked table: "12, then the walk with the room left". This is the second pass, which writes.
-ghost use Rattle.std.specs.Prelude.{◌≡◌, ◌^◌, ◌<◌, ◌≤◌};
+ghost use Rattle.std.specs.Prelude.{◌≡◌, ℕ, ◌≤◌};
 ghost use Rattle.numbers.specs.Size.{size_of};
 ghost use Rattle.grammar.specs.Plan.{rule_in};
-ghost use Rattle.walk.specs.Laid.{left_of};
+ghost use Rattle.walk.specs.Room.{Left};
 ghost use Rattle.walk.specs.Plan.{Reading};
 ghost use Rattle.checked.specs.Fits.{room_for, outcome, FitOver};
 ghost use Rattle.checked.specs.Fits.{asked as is_asked};
 
 use grammar::refusal::Refusal;
 use laying::lay::lay;
-use laying::tally::TOO_DEEP;
+use laying::rest::Rest;
 use numbers::size::LARGEST;
+use walk::lent::Lent;
 
 // "Depth is at most 200. A case has at most 65,536 cells"
 pub const DEPTH: usize = 200;
 
 pub const MOST_CELLS: usize = 65536;
-
-// The count of the case's cells, or why it is refused.
-#[derive(Drop)]
-pub enum Fit {
-    Cells(usize),
-    Not(Refusal),
-}
 
 // "a longer buffer to write into counts as that long for one case"
 pub fn room_for(room: usize) -> usize
@@ -41,30 +35,30 @@ pub fn asked(size: u64, number: u64) -> bool
     false
 }
 
-// What a walk hands back, as an answer: the count of cells, or "of 13 and 14 the one first met".
-pub fn fit_of(most: usize, rest: usize) -> Fit
-    requires { rest < 2 ^ 63 → rest ≤ most }
-    ensures { result ≡ outcome most (left_of rest) }
+// What a walk leaves of the room, as an answer: the count of the case's cells, or "of 13 and 14 the one first met".
+pub fn fit_of(most: usize, rest: Rest) -> Result<usize, Refusal>
+    requires { (k : ℕ) → rest ≡ Left k → k ≤ most }
+    ensures { result ≡ outcome most rest }
 {
-    if rest < TOO_DEEP {
-        return Fit::Cells(most - rest);
-    }
-    if rest == TOO_DEEP {
-        return Fit::Not(Refusal::TooDeep);
-    }
-    Fit::Not(Refusal::NoRoom)
+    Ok(most - rest.result()?)
 }
 
 // It decides as the first pass does by the buffer's length, and writes what fits.
-pub fn fits<'a>(pool: &'a [u64], plan: &'a [u64], start: usize, number: u64, out: &mut [u64]) -> Fit
+pub fn fits<'a>(
+    pool: &'a [u64],
+    plan: &'a [u64],
+    start: usize,
+    number: u64,
+    out: &mut [u64],
+) -> Result<usize, Refusal>
     requires { Reading plan.now pool.now start }
     ensures { FitOver (rule_in plan.now pool.now) start number out.old out.new result }
 {
     if asked(plan[4 * start + 3], number) {
         let most = room_for(out.len());
-        let lent = [pool, plan];
+        let lent = Lent { pool, plan };
         let rest = lay(&lent, start, number, 0, DEPTH, &mut out[..most]);
         return fit_of(most, rest);
     }
-    Fit::Not(Refusal::NoSuchNumber)
+    Err(Refusal::NoSuchNumber)
 }

@@ -11,12 +11,13 @@ use numbers::joined::BIG;
 use numbers::size::LARGEST;
 use taking::own::{DEEP, UNFIT};
 use taking::take::take;
+use walk::lent::Lent;
 
-// The number and the place after its cells, or why there is none.
-#[derive(Drop)]
-pub enum Item {
-    Number(u64, usize),
-    Not(Refusal),
+// The number of a case, and the place after its cells.
+#[derive(Clone, Copy, Debug, PartialEq, Eq)]
+pub struct Item {
+    pub number: u64,
+    pub next: usize,
 }
 
 // Why the walk read nothing: where the cells end, it is 14 if the case may have no more of them, else 15.
@@ -44,7 +45,7 @@ fn case_at<'a>(
     cells: &[u64],
     at: usize,
     whole: bool,
-) -> Item
+) -> Result<Item, Refusal>
     requires { Reading plan.now pool.now start × (at ≤ length cells.now) }
     ensures { Stood (standing whole (rule_in plan.now pool.now) start (drop at cells.now)) cells.now at result }
 {
@@ -52,25 +53,31 @@ fn case_at<'a>(
     let few = room_for(left);
     let row = &cells[at..at + few];
     let mut used: usize = 0;
-    let lent = [pool, plan];
+    let lent = Lent { pool, plan };
     let word = take(&lent, start, &row, DEPTH, 0, &mut used);
     if BIG < word {
-        return Item::Not(why(word, MOST_CELLS <= left));
+        return Err(why(word, MOST_CELLS <= left));
     }
     let next = at + used;
     if whole {
         if next < cells.len() {
-            return Item::Not(Refusal::NotACase);
+            return Err(Refusal::NotACase);
         }
     }
-    if word < LARGEST {
-        return Item::Number(word, next);
+    if LARGEST <= word {
+        return Err(Refusal::NumberTooLarge);
     }
-    Item::Not(Refusal::NumberTooLarge)
+    Ok(Item { number: word, next })
 }
 
 // The case at a place, whatever stands behind it.
-pub fn item_at<'a>(pool: &'a [u64], plan: &'a [u64], start: usize, cells: &[u64], at: usize) -> Item
+pub fn item_at<'a>(
+    pool: &'a [u64],
+    plan: &'a [u64],
+    start: usize,
+    cells: &[u64],
+    at: usize,
+) -> Result<Item, Refusal>
     requires { Reading plan.now pool.now start × (at ≤ length cells.now) }
     ensures { Stood (front (rule_in plan.now pool.now) start (drop at cells.now)) cells.now at result }
 {
@@ -78,7 +85,12 @@ pub fn item_at<'a>(pool: &'a [u64], plan: &'a [u64], start: usize, cells: &[u64]
 }
 
 // All cells are one case.
-pub fn read_case<'a>(pool: &'a [u64], plan: &'a [u64], start: usize, cells: &[u64]) -> Item
+pub fn read_case<'a>(
+    pool: &'a [u64],
+    plan: &'a [u64],
+    start: usize,
+    cells: &[u64],
+) -> Result<Item, Refusal>
     requires { Reading plan.now pool.now start }
     ensures { Stood (whole (rule_in plan.now pool.now) start cells.now) cells.now 0 result }
 {

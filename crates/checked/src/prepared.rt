@@ -1,7 +1,9 @@
 // The check of a table, which leaves the plan that the walks use.
+ghost use Rattle.std.specs.Prelude.{◌≡◌};
+ghost use Rattle.grammar.specs.Table.{lengths};
 ghost use Rattle.checked.specs.Prepared.{Blank, Prepared};
 
-use grammar::refusal::{Refusal, Verdict};
+use grammar::refusal::{Refusal, Refused};
 use planning::plan::weigh_all;
 
 const MOST_NODES: usize = 256;
@@ -16,27 +18,25 @@ pub const SMALL_PLAN: usize = 64;
 
 pub const PLAN: usize = 1024;
 
+// "word and pool lengths"
+fn lengths_fit(table: &[u64], pool: &[u64]) -> bool
+    ensures { result ≡ lengths table.now pool.now }
+{
+    let count = table.len() / 3;
+    table.len() == 3 * count && 1 <= count && count <= MOST_NODES && pool.len() <= MOST_WORDS
+}
+
 // "The whole check: word and pool lengths (1, node 0); then nodes rising ..; then cycles."
-pub fn prepare(table: &[u64], pool: &[u64], plan: &mut [u64]) -> Verdict
+pub fn prepare(table: &[u64], pool: &[u64], plan: &mut [u64]) -> Result<(), Refused>
     requires { Blank table.now plan.old }
     ensures { Prepared table.now pool.now plan.new result }
 {
-    let count = table.len() / 3;
-    if table.len() != 3 * count {
-        return Verdict::Refused(Refusal::Length, 0);
+    if !lengths_fit(table, pool) {
+        return Err(Refused {
+            refusal: Refusal::Length,
+            node: 0,
+        });
     }
-    if count < 1 {
-        return Verdict::Refused(Refusal::Length, 0);
-    }
-    if MOST_NODES < count {
-        return Verdict::Refused(Refusal::Length, 0);
-    }
-    if MOST_WORDS < pool.len() {
-        return Verdict::Refused(Refusal::Length, 0);
-    }
-    let v = weigh_all(table, pool, plan);
-    match v {
-        Verdict::Refused(r, k) => Verdict::Refused(r, k),
-        Verdict::Accepted => cycles::judge(table, pool, plan),
-    }
+    weigh_all(table, pool, plan)?;
+    cycles::judge(table, pool, plan)
 }

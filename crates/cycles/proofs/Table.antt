@@ -33,7 +33,7 @@ use Rattle.grammar.specs.Steps.{steps_of, Step, Leads, Unguarded, ExceptOnCycle}
 use Rattle.grammar.specs.Plan.{size_in, Ready}
 use Rattle.grammar.specs.Verdict.{leads, unguarded, except_on_cycle, cycles}
 use Rattle.grammar.specs.declared.refusal.Refusal.TheVariants.{Unguarded as Rule9, ExceptOnCycle as Rule10}
-use Rattle.grammar.specs.declared.refusal.Verdict.TheVariants.{Accepted, Refused}
+use Rattle.grammar.specs.Refusals.{accepted, refused}
 use Rattle.numbers.proofs.Tests.{and_left, and_right}
 use Rattle.numbers.specs.Size.{Size}
 use Rattle.std.specs.Prelude.{Option, Some, None}
@@ -188,7 +188,7 @@ module _ {t p : List ℕ} {z : ℕ → Size} (c : Checked t p z) where
   except_is = lowest_of (λ n. (rule_at t p z n).skips && leads true t p z n n) (nodes t) c.few except? (λ k w. cycle_in true c k w.cycle)
 
   pub cycles_by : {u e : ℕ} → Lowest (Unguarded t p z) u → Lowest (ExceptOnCycle t p z) e
-      → pick (ltb u 256) (Refused Rule9 u) (pick (ltb e 256) (Refused Rule10 e) Accepted) ≡ cycles t p z
+      → pick (ltb u 256) (refused Rule9 u) (pick (ltb e 256) (refused Rule10 e) accepted) ≡ cycles t p z
   unfolding cycles
   cycles_by f h = rw (lowest_one unguarded_is f, lowest_one except_is h)
 
@@ -196,15 +196,15 @@ module _ {t p : List ℕ} {plan : List Entry} (h : AllPassed t p plan) where
   r : Ready t p plan
   r = ready_of h
 
-  pub cycles_9 : {u : ℕ} → Finds (Unguarded t p (size_in plan)) (Some u) → Refused Rule9 u ≡ cycles t p (size_in plan)
+  pub cycles_9 : {u : ℕ} → Finds (Unguarded t p (size_in plan)) (Some u) → refused Rule9 u ≡ cycles t p (size_in plan)
   cycles_9 {u} f = rw (lt-ltb u 256 f.few) at (cycles_by r.checked f.lowest (except_is r.checked))
 
   module _ (none : Finds (Unguarded t p (size_in plan)) None) where
-    pub cycles_10 : {e : ℕ} → Finds (ExceptOnCycle t p (size_in plan)) (Some e) → Refused Rule10 e ≡ cycles t p (size_in plan)
+    pub cycles_10 : {e : ℕ} → Finds (ExceptOnCycle t p (size_in plan)) (Some e) → refused Rule10 e ≡ cycles t p (size_in plan)
     cycles_10 {e} f = rw (lt-ltb e 256 f.few) at (cycles_by r.checked none.lowest f.lowest)
 
-    pub cycles_none : Finds (ExceptOnCycle t p (size_in plan)) None → Accepted ≡ cycles t p (size_in plan)
+    pub cycles_none : Finds (ExceptOnCycle t p (size_in plan)) None → accepted ≡ cycles t p (size_in plan)
     cycles_none f = cycles_by r.checked none.lowest f.lowest
 
-  pub cycles_no_again : {b : Bool} → (b ≡ false → (n : ℕ) → n < nodes t → kind_of t n ≡ 9 → ⊥) → b ≡ false → Accepted ≡ cycles t p (size_in plan)
+  pub cycles_no_again : {b : Bool} → (b ≡ false → (n : ℕ) → n < nodes t → kind_of t n ≡ 9 → ⊥) → b ≡ false → accepted ≡ cycles t p (size_in plan)
   cycles_no_again f e = cycles_none (finds_none (no_cycle false r (f e))) (finds_none (λ k w. no_cycle true r (f e) k w.cycle))

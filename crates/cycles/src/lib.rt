@@ -12,7 +12,7 @@ ghost use Rattle.grammar.specs.Plan.{size_in};
 ghost use Rattle.cycles.specs.Finds.{Finds};
 ghost use Rattle.grammar.specs.Verdict.{cycles};
 
-use grammar::refusal::{Refusal, Verdict};
+use grammar::refusal::{Refusal, Refused};
 use grammar::weighed::Weighed;
 use safety::all_safe;
 use search::lowest_asked;
@@ -48,17 +48,23 @@ fn except_on_cycle(w: &Weighed) -> Option<u64>
 }
 
 // "then cycles": any 9 comes before any 10. A table with no again is not searched.
-pub fn judge(w: &Weighed) -> Verdict
+pub fn judge(w: &Weighed) -> Result<(), Refused>
     ensures { result ≡ cycles w.now.table.now w.now.pool.now (size_in w.now.plan.now) }
 {
     if !has_again(w) {
-        return Verdict::Accepted;
+        return Ok(());
     }
-    if let Some(n) = unguarded(w) {
-        return Verdict::Refused(Refusal::Unguarded, n);
+    if let Some(node) = unguarded(w) {
+        return Err(Refused {
+            refusal: Refusal::Unguarded,
+            node,
+        });
     }
-    if let Some(n) = except_on_cycle(w) {
-        return Verdict::Refused(Refusal::ExceptOnCycle, n);
+    if let Some(node) = except_on_cycle(w) {
+        return Err(Refused {
+            refusal: Refusal::ExceptOnCycle,
+            node,
+        });
     }
-    Verdict::Accepted
+    Ok(())
 }

@@ -17,14 +17,14 @@ use lib.Dec.{leb}
 use lib.ListN.{get_or}
 use borrow.Author.Tests.{leb-true}
 use Rattle.numbers.proofs.Tests.{and_left, and_right}
-use Rattle.numbers.specs.Size.{Size, finite, endless, Some, plus}
+use Rattle.numbers.specs.Size.{Size, finite, endless, NotZero, plus}
 use Rattle.grammar.specs.Checks.{Check, asks, fits}
 use Rattle.grammar.specs.Refusals.{number_of}
 use Rattle.grammar.specs.Law.{Fit, Lawful, Under, Holds}
 use Rattle.grammar.specs.Rule.{Rule}
 use Rattle.grammar.specs.Kind.{Node, Kind, lower, before}
 
-pub fit_some : (s : Size) → Fit s → Some s
+pub fit_some : (s : Size) → Fit s → NotZero s
 fit_some (finite s) h = h.0
 fit_some endless h = tt
 

@@ -18,8 +18,7 @@ use lib.Seq.{take-suc, take_all}
 use borrow.Author.Tests.{eqb-true, eqb-false, ltb-true, lt-ltb, le-leb, lt-leb, leb-false}
 use Rattle.numbers.specs.Size.{Size, finite, endless, plus, measured}
 use Rattle.numbers.specs.Pick.{pick}
-use Rattle.numbers.specs.declared.size.Measured.{Measured}
-use Rattle.numbers.specs.declared.size.Measured.TheVariants.{Of, Past}
+use Rattle.std.specs.Prelude.{Option, Some, None}
 use Rattle.numbers.proofs.size.SizeWords.{sized_finite, sized_endless}
 use Rattle.grammar.specs.Checks.{is_endless, all_lower, all_endless, all_finite, fits, total, row, asks}
 use Rattle.lists.specs.Lists.{every}
@@ -37,13 +36,13 @@ pub measured_row : (s : Size) → weighed_of (measured s) ≡ coded (row (asks (
 unfolding weighed_of measured coded row
 measured_row (finite s) = by (leb s (2 ^ 62))
   where
-    by : (q : Bool) → weighed_of (pick q (Of s) Past) ≡ coded (row (asks q TooLarge ∷ []) (finite s))
+    by : (q : Bool) → weighed_of (pick q (Some s) None) ≡ coded (row (asks q TooLarge ∷ []) (finite s))
     by true = refl
     by false = refl
 measured_row endless = refl
 
 -- the row of or and of cons, whose parts are lower: f is their sum or their product
-pub pair_row : (f : Size → Size → Size) (z : ℕ → Size) (n a b : ℕ) {m : Measured} {w : Result ℕ Refusal} → ltb a n ≡ true → ltb b n ≡ true
+pub pair_row : (f : Size → Size → Size) (z : ℕ → Size) (n a b : ℕ) {m : Option ℕ} {w : Result ℕ Refusal} → ltb a n ≡ true → ltb b n ≡ true
     → m ≡ measured (f (z a) (z b)) → w ≡ weighed_of m
     → let s = f (before z n a) (before z n b) in w ≡ coded (row (asks (ltb a n && ltb b n) Reference ∷ asks (fits s) TooLarge ∷ []) s)
 unfolding row
@@ -79,19 +78,19 @@ module _ (s w : ℕ) where
   unfolding measured plus
   sum_more (finite t) l e = by (leb t (2 ^ 62)) (rw (le-leb s (2 ^ 62) l) at e)
     where
-      by : (q : Bool) → pick q (Of t) Past ≡ Of s → measured (finite (w + t)) ≡ measured (finite (s + w))
+      by : (q : Bool) → pick q (Some t) None ≡ Some s → measured (finite (w + t)) ≡ measured (finite (s + w))
       by true g = let same : t ≡ s = cc in let e : w + t ≡ s + w = omega arith in rw e
       by false g = let no : ◌≡◌ {A = ℕ} 0 1 = cc in absurd (omega arith)
-  sum_more endless l e = let f : Of (2 ^ 63) ≡ Of s = rw (le-leb s (2 ^ 62) l) at e in let g : 2 ^ 63 ≡ s = cc in absurd (omega arith)
+  sum_more endless l e = let f : Some (2 ^ 63) ≡ Some s = rw (le-leb s (2 ^ 62) l) at e in let g : 2 ^ 63 ≡ s = cc in absurd (omega arith)
 
   sum_past : (t : Size) → 2 ^ 62 < s → measured t ≡ measured (finite s) → measured (plus (finite w) t) ≡ measured (finite s)
   unfolding measured plus
   sum_past (finite t) l e = by (leb t (2 ^ 62)) refl (rw (lt-leb s (2 ^ 62) l) at e)
     where
-      by : (q : Bool) → leb t (2 ^ 62) ≡ q → pick q (Of t) Past ≡ Past → measured (finite (w + t)) ≡ measured (finite s)
+      by : (q : Bool) → leb t (2 ^ 62) ≡ q → pick q (Some t) None ≡ None → measured (finite (w + t)) ≡ measured (finite s)
       by true f g = let no : ◌≡◌ {A = ℕ} 0 1 = cc in absurd (omega arith)
       by false f g = rw (lt-leb (w + t) (2 ^ 62) (omega (arith, leb-false t (2 ^ 62) f)), lt-leb s (2 ^ 62) l)
-  sum_past endless l e = let f : Of (2 ^ 63) ≡ Past = rw (lt-leb s (2 ^ 62) l) at e in let no : ◌≡◌ {A = ℕ} 0 1 = cc in absurd (omega arith)
+  sum_past endless l e = let f : Some (2 ^ 63) ≡ None = rw (lt-leb s (2 ^ 62) l) at e in let no : ◌≡◌ {A = ℕ} 0 1 = cc in absurd (omega arith)
 
 -- ---- the pass over the seconds
 pub record Tally (z : ℕ → Size) (cs : List ℕ) (f s : ℕ) : Type 0 where

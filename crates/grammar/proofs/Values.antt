@@ -10,14 +10,13 @@ use Prim.Native.Nat.{ℕ}
 use lib.Dec.{eqb}
 use lib.ListN.{get_or}
 use Rattle.numbers.specs.Pick.{pick}
-use Rattle.grammar.specs.Refusals.{number_of}
+use Rattle.grammar.specs.Refusals.{number_of, Verdict, accepted, refused}
 use Rattle.grammar.specs.Verdict.{Answer, answer}
 use Rattle.grammar.specs.declared.refusal.Refusal.{Refusal}
 use Rattle.grammar.specs.declared.refusal.Refusal.TheVariants.{Length, Kind, SpareWord, Reference, Range, Repeat, UnsuitedPart, TooLarge}
 use Rattle.grammar.specs.declared.refusal.Refusal.TheVariants.{Unguarded, ExceptOnCycle, NoSuchStart, NoSuchNumber}
 use Rattle.grammar.specs.declared.refusal.Refusal.TheVariants.{TooDeep, NoRoom, NotACase, NumberTooLarge}
-use Rattle.grammar.specs.declared.refusal.Verdict.{Verdict}
-use Rattle.grammar.specs.declared.refusal.Verdict.TheVariants.{Accepted, Refused}
+use Rattle.std.specs.Prelude.{Ok, Err}
 
 -- by their numbers, from 1 on; nothing has number 0
 abbrev refusals : List Refusal
@@ -52,12 +51,12 @@ refused_back d f NotACase = refl
 refused_back d f NumberTooLarge = refl
 
 verdict_of : Answer → Verdict
-verdict_of a = by_refusal a.refusal Accepted (λ r. Refused r a.node)
+verdict_of a = by_refusal a.refusal accepted (λ r. refused r a.node)
 
 verdict_back : (v : Verdict) → verdict_of (answer v) ≡ v
 unfolding answer verdict_of
-verdict_back Accepted = refl
-verdict_back (Refused r k) = refused_back Accepted (λ r. Refused r k) r
+verdict_back (Ok u) = refl
+verdict_back (Err e) = refused_back accepted (λ r. refused r e.node) e.refusal
 
 pub answer_one : (v w : Verdict) → answer v ≡ answer w → v ≡ w
 answer_one v w e = sym (verdict_back v) ∙ ap verdict_of e ∙ verdict_back w

@@ -10,7 +10,7 @@
 --   Ready      the table is checked, with the sizes of the plan
 --   AllWeighed the first fault and its node, or the plan of the whole table
 -- Assumes nothing.
-use Rattle.std.specs.Prelude.{◌≡◌, Result, Ok, Err, List, ℕ, ◌≤◌, ◌<◌, length, get_or}
+use Rattle.std.specs.Prelude.{◌≡◌, Option, Some, None, Result, Ok, Err, List, ℕ, ◌≤◌, ◌<◌, length, get_or}
 use Rattle.numbers.specs.Size.{Size, code_of, size_of}
 use Rattle.grammar.specs.Table.{kind_of, a_of, b_of, nodes}
 use Rattle.grammar.specs.Checks.{Row, fault, sized, row}
@@ -23,11 +23,8 @@ use Rattle.grammar.specs.Kind.{Node, Kind, before}
 use Rattle.grammar.specs.kinds.{kind_in}
 use Rattle.grammar.specs.Checked.{Checked}
 use Rattle.grammar.specs.Sizes.{size_at, scan, passed, faulty, sizes}
-use Rattle.numbers.specs.declared.size.Measured.{Measured}
-use Rattle.numbers.specs.declared.size.Measured.TheVariants.{Of, Past}
 use Rattle.grammar.specs.declared.refusal.Refusal.TheVariants.{TooLarge}
-use Rattle.grammar.specs.declared.refusal.Verdict.{Verdict}
-use Rattle.grammar.specs.declared.refusal.Verdict.TheVariants.{Accepted, Refused}
+use Rattle.grammar.specs.Refusals.{Verdict}
 use Rattle.grammar.specs.declared.refusal.Refusal.{Refusal}
 
 -- what stands where no node is
@@ -61,9 +58,9 @@ coded (fault r) = Err r
 coded (sized s) = Ok (code_of s)
 
 -- a measured size in the same words
-unfoldable pub weighed_of : Measured → Result ℕ Refusal
-weighed_of (Of s) = Ok s
-weighed_of Past = Err TooLarge
+unfoldable pub weighed_of : Option ℕ → Result ℕ Refusal
+weighed_of (Some s) = Ok s
+weighed_of None = Err TooLarge
 
 -- z has the sizes, of which a row looks at those before it
 unfoldable pub weighed : Kind → Node → (ℕ → Size) → Result ℕ Refusal
@@ -87,8 +84,8 @@ pub record Planned (t : List ℕ) (zs : List Size) (n : ℕ) (plan : List Entry)
 
 -- ---- what the nodes of a table show, rising
 abbrev pub WeighedBy : List ℕ → List ℕ → List Entry → Verdict → Type 0
-WeighedBy t p plan Accepted = (scan t p (nodes t) ≡ passed (sizes t p)) × Planned t (sizes t p) (nodes t) plan
-WeighedBy t p plan (Refused r k) = scan t p (nodes t) ≡ faulty r k
+WeighedBy t p plan (Ok u) = (scan t p (nodes t) ≡ passed (sizes t p)) × Planned t (sizes t p) (nodes t) plan
+WeighedBy t p plan (Err e) = scan t p (nodes t) ≡ faulty e.refusal e.node
 
 pub record AllWeighed (t p : List ℕ) (plan : List Entry) (v : Verdict) : Type 0 where
   pub is : WeighedBy t p plan v

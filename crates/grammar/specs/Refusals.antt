@@ -1,8 +1,11 @@
 -- 01's refusal numbers.
 --   number_of   the number that 01 gives to a refusal
+--   Verdict     what a check answers
+--   accepted, refused   its answers; refused also a call's that has another value
 -- Assumes nothing.
-use Rattle.std.specs.Prelude.{ℕ}
+use Rattle.std.specs.Prelude.{ℕ, Result, Ok, Err}
 use Rattle.grammar.specs.declared.refusal.Refusal.{Refusal}
+use Rattle.grammar.specs.declared.refusal.Refused.{Refused}
 use Rattle.grammar.specs.declared.refusal.Refusal.TheVariants.{Length, Kind, SpareWord, Reference, Range, Repeat, UnsuitedPart, TooLarge}
 use Rattle.grammar.specs.declared.refusal.Refusal.TheVariants.{Unguarded, ExceptOnCycle, NoSuchStart, NoSuchNumber}
 use Rattle.grammar.specs.declared.refusal.Refusal.TheVariants.{TooDeep, NoRoom, NotACase, NumberTooLarge}
@@ -25,3 +28,13 @@ number_of TooDeep = 13
 number_of NoRoom = 14
 number_of NotACase = 15
 number_of NumberTooLarge = 16
+
+abbrev pub Verdict : Type 0
+Verdict = Result (Unit {0}) Refused
+
+abbrev pub accepted : Verdict
+accepted = Ok tt
+
+-- a refusal and its node
+abbrev pub refused : {A : Type 0} → Refusal → ℕ → Result A Refused
+refused r k = Err (record { refusal = r; node = k })

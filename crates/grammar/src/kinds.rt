@@ -15,7 +15,7 @@ use super::kind::Kind;
 use super::named::{Named, none, one, two};
 use super::refusal::Refusal;
 use super::weighed::Weighed;
-use numbers::size::{ENDLESS, Measured};
+use numbers::size::ENDLESS;
 
 pub mod again;
 pub mod below;
@@ -70,12 +70,12 @@ pub fn asks(holds: bool, refusal: Refusal) -> Result<(), Refusal>
 }
 
 // A size, or (8) "when a finite size passes 2^62".
-fn of_measured(m: Measured) -> Result<u64, Refusal>
+fn of_measured(m: Option<u64>) -> Result<u64, Refusal>
     ensures { result ≡ weighed_of m }
 {
     match m {
-        Measured::Of(s) => Ok(s),
-        Measured::Past => Err(Refusal::TooLarge),
+        Some(s) => Ok(s),
+        None => Err(Refusal::TooLarge),
     }
 }
 

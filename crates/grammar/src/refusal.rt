@@ -1,9 +1,9 @@
-// Refusals by name, and what a check answers.
+// Refusals by name, and what a check answers: Ok, or the refusal and its node.
 ghost use Rattle.std.specs.Prelude.{◌≡◌};
 ghost use Rattle.grammar.specs.Refusals.{number_of};
 
 // 01's refusals 1 to 16, in its order.
-#[derive(Drop)]
+#[derive(Clone, Copy, Debug, PartialEq, Eq)]
 pub enum Refusal {
     Length,
     Kind,
@@ -23,11 +23,20 @@ pub enum Refusal {
     NumberTooLarge,
 }
 
-// A refused table has the refusal and its node.
-#[derive(Drop)]
-pub enum Verdict {
-    Accepted,
-    Refused(Refusal, u64),
+// A refused call has the refusal and its node.
+#[derive(Clone, Copy, Debug, PartialEq, Eq)]
+pub struct Refused {
+    pub refusal: Refusal,
+    pub node: u64,
+}
+
+// "a node for 1 to 10 (0 for every other refusal)": a refusal that comes with no node.
+impl From<Refusal> for Refused {
+    ghost from_gives = { λ r e. e ≡ record { refusal = r; node = 0 } };
+
+    fn from(refusal: Refusal) -> Refused {
+        Refused { refusal, node: 0 }
+    }
 }
 
 pub fn number_of(refusal: Refusal) -> u64

@@ -8,6 +8,7 @@ use mathlib.Core.Path.{◌≡◌, sym, ap, subst, ◌∙◌}
 use mathlib.Core.List.{List, ◌∷◌}
 use Prim.Native.Nat.{ℕ, ◌+◌, ◌-◌, ◌*◌, ◌^◌, ◌≤◌, ◌<◌}
 use native.Mathlib.Omega.{arith}
+use Rattle.grammar.specs.declared.entry.Entry.{Entry}
 use Rattle.grammar.specs.Rule.{Rule}
 use Rattle.walk.specs.Walk.{Event, cell, walk}
 use Rattle.walk.specs.Laid.{Laid}
@@ -31,7 +32,7 @@ tally_up room g d u i n e h = tally_by room e (h ∙ tallied_up g d 0 u i n room
 pub laid_by : {room : ℕ} {es es' : List Event} {old last : List ℕ} {b : RoomLeft} → es ≡ es' → Laid room es' old last b → Laid room es old last b
 laid_by {room} {old = old} {last} {b} e h = subst (λ (xs : List Event). Laid room xs old last b) (sym e) h
 
-module _ {plan p : List ℕ} {n left t room : ℕ} (e : 2 * left ≡ t) (f : left ≡ 0 → ⊥) (h : (n + left ≤ 2 ^ 62 + 200) × (left ≤ 200) × (room ≤ most)) where
+module _ {plan : List Entry} {p : List ℕ} {n left t room : ℕ} (e : 2 * left ≡ t) (f : left ≡ 0 → ⊥) (h : (n + left ≤ 2 ^ 62 + 200) × (left ≤ 200) × (room ≤ most)) where
   pub tally_part : {q m : ℕ} → Next plan p n q m
       → (2 * (left - 1) < t) × (Visits plan p q m × ((m + (left - 1) ≤ 2 ^ 62 + 200) × (left - 1 ≤ 200) × (room ≤ most)))
   tally_part k = (omega arith, (k.visits, (omega (arith, k.near, h.0), omega (arith, h.1), h.2)))
@@ -45,7 +46,7 @@ module _ {plan p : List ℕ} {n left t room : ℕ} (e : 2 * left ≡ t) (f : lef
       × ((Visits plan p a x × Visits plan p b y) × ((x + (left - 1) ≤ 2 ^ 62 + 200) × (y + (left - 1) ≤ 2 ^ 62 + 200) × (left - 1 ≤ 200) × (room ≤ most)))
   to_both k o = (omega arith, ((k.visits, o.visits), (omega (arith, k.near, h.0), omega (arith, o.near, h.0), omega (arith, h.1), h.2)))
 
-module _ {plan p : List ℕ} {n left t : ℕ} (up : ℕ) {long : ℕ} (e : 2 * left ≡ t) (f : left ≡ 0 → ⊥)
+module _ {plan : List Entry} {p : List ℕ} {n left t : ℕ} (up : ℕ) {long : ℕ} (e : 2 * left ≡ t) (f : left ≡ 0 → ⊥)
     (h : (n + left ≤ 2 ^ 62 + 200) × (up + left * 2 ^ 32 ≤ 200 * 2 ^ 32) × (left ≤ 200) × (long ≤ most)) where
   pub lay_part : {q m : ℕ} → Next plan p n q m
       → (2 * (left - 1) < t)

@@ -1,3 +1,4 @@
 -- What the contracts of the writing walk cite beside those of `walk`.
 pub mod Sure
 pub mod Parts
+pub mod Rest

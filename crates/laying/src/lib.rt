@@ -2,5 +2,6 @@
 #![tactic(auto)]
 
 pub mod lay;
+pub mod rest;
 pub mod sure;
 pub mod tally;

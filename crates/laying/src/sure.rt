@@ -1,87 +1,75 @@
 // Whether every case of a node fits a room, whatever its number: then a call may write in one pass.
 // It goes by widths: the most cells that a node's cases may have.
-ghost use Rattle.std.specs.Prelude.{◌≡◌, true, ◌+◌, ◌*◌, ◌<◌, min, max, length};
-ghost use Rattle.laying.specs.Sure.{Sure, Width, Widths, wide, width_at};
+ghost use Rattle.std.specs.Prelude.{◌≡◌, true, ◌+◌, ◌<◌, Some, None, leb, length};
+ghost use Rattle.numbers.specs.Pick.{pick};
+ghost use Rattle.walk.specs.Room.{most};
+ghost use Rattle.laying.specs.Sure.{Sure, Width, Widths, width_at};
 
-use grammar::kinds;
+use grammar::entry::Entry;
+use grammar::kind::Kind;
 
 // Only the first nodes are looked at. A known width is made of widths that were known before it, so no
 // walk from such a node goes deeper than 32: that fits "Depth is at most 200" without a look.
 const NODES: usize = 32;
 
-// A width that is not known, or past "at most 65,536 cells".
-const WIDE: usize = 65537;
+// "A case has at most 65,536 cells"
+const MOST_CELLS: usize = 65536;
 
-fn larger(x: usize, y: usize) -> usize
-    ensures { result ≡ max x y }
+// A width past what a case may have says nothing: it counts as not known.
+fn known(w: usize) -> Option<usize>
+    ensures { result ≡ pick (leb w most) (Some w) None }
 {
-    if x < y { y } else { x }
-}
-
-fn capped(w: usize) -> usize
-    ensures { result ≡ min w wide }
-{
-    if w < WIDE { w } else { WIDE }
+    (w <= MOST_CELLS).then_some(w)
 }
 
 // The width of a part; past the first nodes it is not known.
-fn part(widths: &[usize; NODES], a: usize) -> usize
+fn part(widths: &[Option<usize>; NODES], a: usize) -> Option<usize>
     requires { length widths.now ≡ 32 }
     ensures { result ≡ width_at widths.now a }
 {
-    if a < NODES {
-        return widths[a];
-    }
-    WIDE
+    *widths.get(a)?
 }
 
-// A width of node k, from those of its parts. A part that is not filled yet is WIDE, and so is what is
-// made of it. Of a kind without a line it is not known: a dep has seconds in the pool, an again leads back
+// A width of node k, from those of its parts. A part that is not filled yet is not known, and so is what is
+// made of it. Of a dep it is not known, whose seconds are in the pool, nor of an again, which leads back
 // to its fix.
-fn width_of(plan: &[u64], k: usize, widths: &[usize; NODES]) -> usize
-    requires k_in_bounds { 4 * k + 3 < length plan.now }
+fn width_of(plan: &[Entry], k: usize, widths: &[Option<usize>; NODES]) -> Option<usize>
+    requires k_in_bounds { k < length plan.now }
     requires widths { Widths plan.now widths.now k }
     ensures { Width plan.now k result (k + 1) }
 {
-    let kind = plan[4 * k];
-    let a = plan[4 * k + 1] as usize;
-    let b = plan[4 * k + 2] as usize;
+    let Entry { kind, a, b, .. } = plan[k];
     match kind {
-        kinds::BELOW => 1,
-        kinds::NATS => 1,
-        kinds::POOL => 1,
-        kinds::SHIFT => part(widths, a),
-        kinds::OR => capped(1 + larger(part(widths, a), part(widths, b))),
-        kinds::CONS => capped(part(widths, a) + part(widths, b)),
-        kinds::EXCEPT => part(widths, a),
-        kinds::FIX => part(widths, a),
-        _ => WIDE,
+        Kind::Below => Some(1),
+        Kind::Nats => Some(1),
+        Kind::Pool => Some(1),
+        Kind::Shift => part(widths, a),
+        Kind::Or => known(1 + part(widths, a)?.max(part(widths, b as usize)?)),
+        Kind::Cons => known(part(widths, a)? + part(widths, b as usize)?),
+        Kind::Except => part(widths, a),
+        Kind::Fix => part(widths, a),
+        Kind::Dep | Kind::Again => None,
     }
 }
 
 // "Depth is at most 200. A case has at most 65,536 cells": whether every case of node i fits a room.
-pub fn sure(plan: &[u64], i: usize, room: usize) -> bool
-    requires { 4 * i + 3 < length plan.now }
+pub fn sure(plan: &[Entry], i: usize, room: usize) -> bool
+    requires { i < length plan.now }
     ensures { result ≡ true → Sure plan.now i room }
 {
     if NODES <= i {
         return false;
     }
     // A fix is nearly always one of a recursion, and that has no width.
-    let kind = plan[4 * i];
-    if kind == kinds::FIX {
+    if matches!(plan[i].kind, Kind::Fix | Kind::Again) {
         return false;
     }
-    if kind == kinds::AGAIN {
-        return false;
-    }
-    let mut widths = [WIDE; NODES];
+    let mut widths = [None; NODES];
     for k in 0..i + 1 {
         widths[k] = width_of(plan, k, &widths);
     }
-    let w = widths[i];
-    if w == WIDE {
-        return false;
+    match widths[i] {
+        Some(w) => w <= room,
+        None => false,
     }
-    w <= room
 }

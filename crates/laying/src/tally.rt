@@ -3,92 +3,82 @@ ghost use Rattle.std.specs.Prelude.{◌≡◌, [], ◌∷◌, ◌+◌, ◌^◌, 
 ghost use Rattle.grammar.specs.Plan.{rule_in};
 ghost use Rattle.walk.specs.Walk.{cell, walk};
 ghost use Rattle.walk.specs.Room.{tallied, most};
-ghost use Rattle.walk.specs.Laid.{left_of};
 ghost use Rattle.walk.specs.Lent.{pool_of, plan_of};
 ghost use Rattle.walk.specs.Plan.{Visits};
 ghost use Rattle.laying.specs.Parts.{VisitsTwo, tag_walk, two_walks};
 
-use grammar::kinds;
+use super::rest::{Rest, Stop};
+use grammar::entry::Entry;
+use grammar::kind::Kind;
 use grammar::kinds::{Tagged, Two, cons, dep, or};
 use numbers::except;
-use walk::lent::{LENT, PLAN, POOL};
-
-// What a walk hands back: what is left of the room after the case; or, from 2^63 on, the first of 13 and
-// 14 in walk order. A word and not an enum: every visit hands one back, and copies of an enum stall.
-pub const TOO_DEEP: usize = 9223372036854775808;
-
-pub const NO_ROOM: usize = 9223372036854775809;
+use walk::lent::Lent;
 
 // One cell.
-fn one(room: usize) -> usize
+fn one(room: usize) -> Rest
     requires { room ≤ most }
-    ensures { left_of result ≡ tallied room (cell 0 ∷ []) }
+    ensures { result ≡ tallied room (cell 0 ∷ []) }
 {
     if room == 0 {
-        return NO_ROOM;
+        return Rest::stopped(Stop::NoRoom);
     }
-    room - 1
+    Rest::left(room - 1)
 }
 
 // A tag cell, then a part.
 #[cycle(both_tagged_tally)]
-fn tagged(lent: &[&[u64]; LENT], s: Tagged, left: usize, room: usize) -> usize
+fn tagged(lent: &Lent, s: Tagged, left: usize, room: usize) -> Rest
     requires visits { Visits (plan_of lent.now) (pool_of lent.now) s.part s.number }
     requires left_bound { (s.number + left ≤ 2 ^ 62 + 200) × (left ≤ 200) × (room ≤ most) }
-    ensures { left_of result ≡ tallied room (tag_walk (plan_of lent.now) (pool_of lent.now) left 0 s) }
+    ensures { result ≡ tallied room (tag_walk (plan_of lent.now) (pool_of lent.now) left 0 s) }
 {
     if room == 0 {
-        return NO_ROOM;
+        return Rest::stopped(Stop::NoRoom);
     }
     tally(lent, s.part, s.number, left, room - 1)
 }
 
 // Two parts at two numbers.
 #[cycle(both_tagged_tally)]
-fn both(lent: &[&[u64]; LENT], s: Two, left: usize, room: usize) -> usize
+fn both(lent: &Lent, s: Two, left: usize, room: usize) -> Rest
     requires visits_two { VisitsTwo (plan_of lent.now) (pool_of lent.now) s }
     requires left_bound { (s.x + left ≤ 2 ^ 62 + 200) × (s.y + left ≤ 2 ^ 62 + 200) × (left ≤ 200) × (room ≤ most) }
-    ensures { left_of result ≡ tallied room
+    ensures { result ≡ tallied room
         (two_walks (plan_of lent.now) (pool_of lent.now) left s) }
 {
-    let rest = tally(lent, s.first, s.x, left, room);
-    if TOO_DEEP <= rest {
-        return rest;
+    match tally(lent, s.first, s.x, left, room).result() {
+        Ok(rest) => tally(lent, s.second, s.y, left, rest),
+        Err(stop) => Rest::stopped(stop),
     }
-    tally(lent, s.second, s.y, left, rest)
 }
 
 // "visits the node's parts at one depth more": the walk calls itself on parts, and the depth left falls.
 #[cycle(both_tagged_tally)]
-pub fn tally(lent: &[&[u64]; LENT], i: usize, n: u64, left: usize, room: usize) -> usize
+pub fn tally(lent: &Lent, i: usize, n: u64, left: usize, room: usize) -> Rest
     requires visits { Visits (plan_of lent.now) (pool_of lent.now) i n }
     requires left_bound { (n + left ≤ 2 ^ 62 + 200) × (left ≤ 200) × (room ≤ most) }
-    ensures { left_of result ≡ tallied room (walk (rule_in (plan_of lent.now) (pool_of lent.now)) left 0 i n) }
+    ensures { result ≡ tallied room (walk (rule_in (plan_of lent.now) (pool_of lent.now)) left 0 i n) }
 {
     if left == 0 {
-        return TOO_DEEP;
+        return Rest::stopped(Stop::TooDeep);
     }
-    let plan = lent[PLAN];
-    let kind = plan[4 * i];
-    let a = plan[4 * i + 1] as usize;
-    let b = plan[4 * i + 2];
+    let plan = lent.plan;
+    let Entry { kind, a, b, .. } = plan[i];
     match kind {
-        kinds::BELOW => one(room),
-        kinds::NATS => one(room),
-        kinds::POOL => one(room),
-        kinds::SHIFT => tally(lent, a, n, left - 1, room),
-        kinds::OR => tagged(lent, or::step(plan, a, b as usize, n), left - 1, room),
-        kinds::CONS => both(lent, cons::step(plan, a, b as usize, n), left - 1, room),
-        kinds::DEP => both(
+        Kind::Below => one(room),
+        Kind::Nats => one(room),
+        Kind::Pool => one(room),
+        Kind::Shift => tally(lent, a, n, left - 1, room),
+        Kind::Or => tagged(lent, or::step(plan, a, b as usize, n), left - 1, room),
+        Kind::Cons => both(lent, cons::step(plan, a, b as usize, n), left - 1, room),
+        Kind::Dep => both(
             lent,
-            dep::step(lent[POOL], plan, a, b as usize, n),
+            dep::step(lent.pool, plan, a, b as usize, n),
             left - 1,
             room,
         ),
-        kinds::EXCEPT => tally(lent, a, except::split(b, n), left - 1, room),
-        kinds::FIX => tally(lent, a, n, left - 1, room),
-        kinds::AGAIN => tally(lent, a, n, left - 1, room),
-        // Not reached: a checked plan has no other kind.
-        _ => NO_ROOM,
+        Kind::Except => tally(lent, a, except::split(b, n), left - 1, room),
+        Kind::Fix => tally(lent, a, n, left - 1, room),
+        Kind::Again => tally(lent, a, n, left - 1, room),
     }
 }

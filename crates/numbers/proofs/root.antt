@@ -1,4 +1,4 @@
 -- The laws of the root, and the arithmetic of Newton's step.
 pub mod WholeRoot
-mod Near
+pub mod Square
 mod Newton

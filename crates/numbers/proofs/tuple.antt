@@ -4,7 +4,7 @@ pub mod SplitJoin
 pub mod Order
 pub mod Least
 pub mod Square
+mod Worked
 mod Weighing
 mod Spreading
 mod Ranking
-mod Worked

@@ -1,15 +1,13 @@
 -- Sizes. 01: "Sizes are a whole number up to 2^62, or endless."
 --   Size               finite s, or endless
 --   Below n s          n is one of the numbers of a node of size s
---   Some s             there is such a number
+--   NotZero s          there is such a number
 --   plus, times, less  "Endless plus, or times, anything is endless; endless less one is endless."
 --   size_of, code_of     a size in one machine word
---   measured           a size's word, or past 2^62
+--   measured           a size's word, or none past 2^62
 -- Assumes nothing.
-use Rattle.std.specs.Prelude.{Bool, true, ℕ, ◌+◌, ◌*◌, ◌-◌, ◌^◌, ◌<◌, ltb, leb}
+use Rattle.std.specs.Prelude.{Bool, true, ℕ, ◌+◌, ◌*◌, ◌-◌, ◌^◌, ◌<◌, ltb, leb, Option, Some, None}
 use Rattle.numbers.specs.Pick.{pick}
-use Rattle.numbers.specs.declared.size.Measured.{Measured}
-use Rattle.numbers.specs.declared.size.Measured.TheVariants.{Of, Past}
 
 pub data Size : Type 0 where
   finite : ℕ → Size
@@ -25,9 +23,9 @@ below n (finite s) = ltb n s
 below n endless = true
 
 -- a size that is not 0
-abbrev pub Some : Size → Type 0
-Some (finite s) = 0 < s
-Some endless = Unit {0}
+abbrev pub NotZero : Size → Type 0
+NotZero (finite s) = 0 < s
+NotZero endless = Unit {0}
 
 unfoldable pub plus : Size → Size → Size
 plus (finite s) (finite t) = finite (s + t)
@@ -52,6 +50,6 @@ unfoldable pub size_of : ℕ → Size
 size_of w = pick (ltb w (2 ^ 63)) (finite w) endless
 
 -- "(8) is given when a finite size passes 2^62"
-unfoldable pub measured : Size → Measured
-measured (finite s) = pick (leb s (2 ^ 62)) (Of s) Past
-measured endless = Of (code_of endless)
+unfoldable pub measured : Size → Option ℕ
+measured (finite s) = pick (leb s (2 ^ 62)) (Some s) None
+measured endless = Some (code_of endless)

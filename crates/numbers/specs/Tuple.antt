@@ -4,9 +4,8 @@
 --   ways met r m   how many lists of m part numbers up to r there are; where r has not been met, of those that have it
 --   tail, rank     such a list by its place in dictionary order, and back
 --   split, join    between a number and the part numbers
---   Splits         an array of the part numbers
 -- Assumes nothing.
-use Rattle.std.specs.Prelude.{◌≡◌, Bool, true, false, List, [], ◌∷◌, ℕ, zero, suc, ◌+◌, ◌*◌, ◌-◌, ◌/◌, ◌%◌, ◌^◌, ◌<◌, max, ltb, length, take}
+use Rattle.std.specs.Prelude.{◌≡◌, Bool, true, false, List, [], ◌∷◌, ℕ, zero, suc, ◌+◌, ◌*◌, ◌-◌, ◌/◌, ◌%◌, ◌^◌, ◌<◌, max, ltb, length}
 use Rattle.numbers.specs.Pick.{pick}
 use Rattle.numbers.specs.Power.{root_of}
 
@@ -44,8 +43,3 @@ split t n = tail false (root_of t n) t (n - root_of t n ^ t)
 
 unfoldable pub join : List ℕ → ℕ
 join xs = largest xs ^ length xs + rank false (largest xs) xs
-
--- the part numbers stand in front; what comes behind them says nothing
-pub record Splits (t n : ℕ) (r : List ℕ) : Type 0 where
-  pub long : length r ≡ 8
-  pub front : take t r ≡ split t n

@@ -1,11 +1,19 @@
 -- How many tails a tuple may have, as its code keeps them.
---   Weights   the ways for each count below t, in two arrays
+--   weight    of a part with those behind, as r has been met or not
+--   Weights   the ways of each count of parts, from none on
 -- Assumes nothing.
-use Rattle.std.specs.Prelude.{◌≡◌, true, false, List, ℕ, ◌<◌, length, get_or}
+use Rattle.std.specs.Prelude.{◌≡◌, Bool, true, false, List, ℕ, ◌<◌, length, get_or}
 use Rattle.numbers.specs.Tuple.{ways}
+use Rattle.numbers.specs.declared.tuple.Ways.{Ways}
 
-pub record Weights (r t : ℕ) (met unmet : List ℕ) : Type 0 where
-  pub met_long : length met ≡ 8
-  pub unmet_long : length unmet ≡ 8
-  pub ways_met : (m : ℕ) → m < t → get_or met m 0 ≡ ways true r m
-  pub ways_unmet : (m : ℕ) → m < t → get_or unmet m 0 ≡ ways false r m
+abbrev pub weight : Ways → Bool → ℕ
+weight w true = w.met
+weight w false = w.unmet
+
+-- where there is none
+abbrev pub nowhere : Ways
+nowhere = record { met = 0; unmet = 0 }
+
+pub record Weights (r : ℕ) (all : List Ways) : Type 0 where
+  pub ways_met : (m : ℕ) → m < length all → (get_or all m nowhere).met ≡ ways true r m
+  pub ways_unmet : (m : ℕ) → m < length all → (get_or all m nowhere).unmet ≡ ways false r m

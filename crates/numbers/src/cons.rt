@@ -4,7 +4,7 @@ ghost use Rattle.numbers.specs.Size.{size_of, endless};
 ghost use Rattle.numbers.specs.Joined.{capped};
 ghost use Rattle.numbers.specs.Cons.{split, join};
 
-use super::joined::{Joined, cap, product_and};
+use super::joined::{cap, product_and};
 use super::root::root_of;
 use super::size::ENDLESS;
 
@@ -12,7 +12,7 @@ use super::size::ENDLESS;
 const ROOT_OF_LARGEST: u64 = 2147483648;
 
 // The numbers of the first part and of the second.
-#[derive(Drop)]
+#[derive(Clone, Copy, Debug, PartialEq, Eq)]
 pub struct Pair {
     pub first: u64,
     pub second: u64,
@@ -60,7 +60,7 @@ fn split_square(n: u64) -> Pair
     }
 }
 
-pub fn join(i: u64, j: u64, x: u64, y: u64) -> Joined
+pub fn join(i: u64, j: u64, x: u64, y: u64) -> Option<u64>
     ensures { result ≡ capped (join (size_of i) (size_of j) x y) }
 {
     if j <= i {
@@ -75,15 +75,12 @@ pub fn join(i: u64, j: u64, x: u64, y: u64) -> Joined
     join_square(x, y)
 }
 
-// The square is decided before it is made: past the root of 2^62 it is Big.
-fn join_square(x: u64, y: u64) -> Joined
+// The square is decided before it is made: past the root of 2^62 it is past the limit.
+fn join_square(x: u64, y: u64) -> Option<u64>
     ensures { result ≡ capped (join endless endless x y) }
 {
-    if ROOT_OF_LARGEST < x {
-        return Joined::Big;
-    }
-    if ROOT_OF_LARGEST < y {
-        return Joined::Big;
+    if ROOT_OF_LARGEST < x.max(y) {
+        return None;
     }
     if x < y {
         cap(y * y + x)

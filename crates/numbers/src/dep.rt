@@ -5,9 +5,10 @@ ghost use Rattle.numbers.specs.Joined.{capped};
 ghost use Rattle.numbers.specs.Dep.{split, join, endlesses};
 
 use super::cons::Pair;
-use super::joined::{Joined, LIMIT, cap, product_and};
+use super::joined::{cap, product_and};
 
 // "Seconds endless: first n mod m, second n div m."
+#[tactic(auto, unfolding(crate::specs::Dep::split))]
 pub fn split_endless(m: u64, n: u64) -> Pair
     requires { 0 < m }
     ensures { result ≡ split (endlesses m) n }
@@ -18,21 +19,17 @@ pub fn split_endless(m: u64, n: u64) -> Pair
     }
 }
 
-pub fn join_endless(m: u64, x: u64, y: u64) -> Joined
+#[tactic(auto, unfolding(crate::specs::Dep::join))]
+pub fn join_endless(m: u64, x: u64, y: u64) -> Option<u64>
     ensures { result ≡ capped (join (endlesses m) x y) }
 {
     product_and(y, m, x)
 }
 
 // Number y of a second, where before is the sum of the sizes of those before it.
-pub fn join_finite(before: u64, y: u64) -> Joined
+#[tactic(auto, using(crate::proofs::joined::Capped::is_big))]
+pub fn join_finite(before: u64, y: u64) -> Option<u64>
     ensures { result ≡ capped (before + y) }
 {
-    if LIMIT <= before {
-        return Joined::Big;
-    }
-    if LIMIT <= y {
-        return Joined::Big;
-    }
-    cap(before + y)
+    cap(before.checked_add(y)?)
 }

@@ -3,9 +3,10 @@ ghost use Rattle.std.specs.Prelude.{◌≡◌, ◌+◌, ◌≤◌};
 ghost use Rattle.numbers.specs.Joined.{capped, limit};
 ghost use Rattle.numbers.specs.Except.{split, join};
 
-use super::joined::{Joined, cap};
+use super::joined::cap;
 
 // "the part at n if n < b, otherwise at n+1"
+#[tactic(auto, unfolding(crate::specs::Except::split))]
 pub fn split(b: u64, n: u64) -> u64
     requires { n ≤ limit }
     ensures { result ≡ split b n }
@@ -14,7 +15,8 @@ pub fn split(b: u64, n: u64) -> u64
 }
 
 // The part's number m is not the removed one, b: whoever reads has refused that.
-pub fn join(b: u64, m: u64) -> Joined
+#[tactic(auto, unfolding(crate::specs::Except::join))]
+pub fn join(b: u64, m: u64) -> Option<u64>
     requires { m ≡ b → ⊥ }
     ensures { result ≡ capped (join b m) }
 {

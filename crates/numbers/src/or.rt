@@ -4,10 +4,10 @@ ghost use Rattle.numbers.specs.Size.{size_of};
 ghost use Rattle.numbers.specs.Joined.{capped};
 ghost use Rattle.numbers.specs.Or.{alternate, split, join, turn};
 
-use super::joined::{Joined, LIMIT, cap};
+use super::joined::cap;
 
 // A part and a number in it.
-#[derive(Drop)]
+#[derive(Clone, Copy, Debug, PartialEq, Eq)]
 pub enum Part {
     First(u64),
     Second(u64),
@@ -40,7 +40,8 @@ pub fn split(s: u64, t: u64, n: u64) -> Part
     Part::First(n - t)
 }
 
-pub fn join(s: u64, t: u64, p: Part) -> Joined
+#[tactic(auto, unfolding(crate::specs::Or::join))]
+pub fn join(s: u64, t: u64, p: Part) -> Option<u64>
     ensures { result ≡ capped (join (size_of s) (size_of t) p) }
 {
     match p {
@@ -49,16 +50,11 @@ pub fn join(s: u64, t: u64, p: Part) -> Joined
     }
 }
 
-// Number m of part b, 0 or 1, where the other part has size u.
-pub fn turned(b: u64, u: u64, m: u64) -> Joined
+// Number m of part b, 0 or 1, where the other part has size u. At the limit it is past it: no join is less than its part.
+pub fn turned(b: u64, u: u64, m: u64) -> Option<u64>
     requires { b ≤ 1 }
     ensures { result ≡ capped (turn b (size_of u) m) }
 {
-    if LIMIT <= m {
-        return Joined::Big;
-    }
-    if m < u {
-        return cap(2 * m + b);
-    }
-    cap(m + u)
+    let m = cap(m)?;
+    cap(if m < u { 2 * m + b } else { m + u })
 }

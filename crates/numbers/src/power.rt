@@ -1,4 +1,5 @@
-// The whole t-th root, for the three to eight parts that a tuple may have.
+// The whole t-th root, for the three to eight parts that a tuple may have. The search from a near number on is that of the
+// square root too, at t = 2.
 ghost use Rattle.std.specs.Prelude.{◌≡◌, ◌+◌, ◌^◌, ◌≤◌, ◌<◌};
 ghost use Rattle.numbers.specs.Joined.{limit};
 ghost use Rattle.numbers.specs.Power.{root_of};
@@ -6,14 +7,10 @@ ghost use Rattle.numbers.specs.Power.{root_of};
 use super::divided::divided;
 
 fn power(base: u64, t: usize) -> u64
-    requires { base ^ t < 2 ^ 64 }
+    requires { (t ≤ 8) × (base ^ t < 2 ^ 64) }
     ensures { result ≡ base ^ t }
 {
-    let mut p: u64 = 1;
-    for i in 0..t {
-        p = p * base;
-    }
-    p
+    base.pow(t as u32)
 }
 
 // The largest root of a number that a walk has: the power of the next one is past every number's limit.
@@ -58,9 +55,9 @@ fn logarithm(n: u64) -> u64
     requires { 0 < n }
     ensures { result < 2 ^ 23 }
 {
-    let zeros = u64::leading_zeros(n);
+    let zeros = n.leading_zeros();
     let x = ((n << zeros) >> 47) % ONE;
-    let whole = 63 - zeros as u64;
+    let whole = 63 - u64::from(zeros);
     whole * ONE + x + product(LOG_CURVE - product(x, LOG_SLOPE), product(ONE - x, x))
 }
 
@@ -72,19 +69,10 @@ fn power_of_two(log: u64) -> u64
     (e << (log >> 16)) >> 16
 }
 
-// Any number is as good as another here, up to the largest root.
-fn at_most(t: usize, near: u64) -> u64
-    requires { (3 ≤ t) × (t ≤ 8) }
-    ensures { result ≤ root_of t limit }
-{
-    let most = most(t);
-    if most < near { most } else { near }
-}
-
 // From here on a guess may be more than two off, and a step of Newton's pays.
 const LARGE: u64 = 4096;
 
-// Newton's step from a large guess.
+// Newton's step from a large guess. Any number is as good as another here, up to the largest root.
 fn nearer(t: usize, n: u64, near: u64) -> u64
     requires { (3 ≤ t) × (t ≤ 8) × (n ≤ limit) × (near ≤ root_of t limit) }
     ensures { result ≤ root_of t limit }
@@ -93,10 +81,7 @@ fn nearer(t: usize, n: u64, near: u64) -> u64
         return near;
     }
     let others = t - 1;
-    at_most(
-        t,
-        divided(others as u64 * near + n / power(near, others), t),
-    )
+    divided(others as u64 * near + n / power(near, others), t).min(most(t))
 }
 
 // About the root of n, and at most the largest root.
@@ -105,13 +90,15 @@ fn guess(t: usize, n: u64) -> u64
     ensures { result ≤ root_of t limit }
 {
     let near = power_of_two(divided(logarithm(n), t));
-    nearer(t, n, at_most(t, near))
+    nearer(t, n, near.min(most(t)))
 }
 
-// The first number from `from` down whose power is within n.
-fn down(t: usize, n: u64, from: u64) -> u64
-    requires { (3 ≤ t) × (t ≤ 8) × (from ≤ root_of t limit) × (n < (from + 1) ^ t) }
-    ensures { result ≡ root_of t n }
+// The first number from `from` down whose power is within n: the root, where that is not above `from`. A loop, as `up` too:
+// there is always such a number, and `find` over the numbers would answer an Option of it.
+pub(super) fn down(t: usize, n: u64, from: u64) -> u64
+    requires { (0 < t) × (t ≤ 8) × (from ^ t < 2 ^ 64) }
+    ensures within { result ^ t ≤ n }
+    ensures root { n < (from + 1) ^ t → result ≡ root_of t n }
 {
     let mut r = from;
     while n < power(r, t) {
@@ -121,8 +108,8 @@ fn down(t: usize, n: u64, from: u64) -> u64
 }
 
 // The last number from `from` up whose power is within n.
-fn up(t: usize, n: u64, from: u64) -> u64
-    requires { (3 ≤ t) × (t ≤ 8) × (n ≤ limit) × (from ^ t ≤ n) }
+pub(super) fn up(t: usize, n: u64, from: u64) -> u64
+    requires { (0 < t) × (t ≤ 8) × (from ^ t ≤ n) × ((root_of t n + 1) ^ t < 2 ^ 64) }
     ensures { result ≡ root_of t n }
 {
     let mut r = from;

@@ -2,6 +2,8 @@
 ghost use Rattle.std.specs.Prelude.{◌≡◌, ◌*◌, ◌<◌, ◌≤◌, ◌^◌};
 ghost use Rattle.numbers.specs.Root.{root, Above};
 
+use super::power::{down, up};
+
 // The largest root of a word, 2^32 - 1.
 const MOST: u64 = 4294967295;
 
@@ -146,9 +148,9 @@ fn guess(n: u64) -> u64
     requires { 0 < n }
     ensures { (1 < result) × (result < 2 ^ 32) }
 {
-    let half = u64::leading_zeros(n) / 2;
+    let half = n.leading_zeros() / 2;
     let top = (n << (2 * half)) >> 57;
-    let near = (top_root(top) as u64) << 16;
+    let near = u64::from(top_root(top)) << 16;
     (near >> half) + 2
 }
 
@@ -157,8 +159,7 @@ fn step_above(n: u64, near: u64) -> u64
     requires { (1 < near) × (near ≤ 2 ^ 32) }
     ensures { Above n result }
 {
-    let r = (near + n / near) / 2;
-    if MOST < r { MOST } else { r }
+    ((near + n / near) / 2).min(MOST)
 }
 
 // Below this a guess is so near that no division is needed: deep in a large case nearly all numbers are small.
@@ -166,30 +167,6 @@ const SMALL: u64 = 65536;
 
 // Below this one step of Newton's leaves at most a few numbers to the root, and from here on two.
 const MIDDLE: u64 = 4294967296;
-
-// The first number from `near` down whose square is within n: the root, where `near` is that or more.
-fn down(n: u64, near: u64) -> u64
-    requires { near < 2 ^ 32 }
-    ensures { (result * result ≤ n) × (Above n near → result ≡ root n) }
-{
-    let mut r = near;
-    while n < r * r {
-        r -= 1;
-    }
-    r
-}
-
-// The last number from r up whose square is within n.
-fn up(n: u64, from: u64) -> u64
-    requires { (from * from ≤ n) × (n < 65536) }
-    ensures { result ≡ root n }
-{
-    let mut r = from;
-    while (r + 1) * (r + 1) <= n {
-        r += 1;
-    }
-    r
-}
 
 // From any guess a step gives the root or more, and a near one from a near guess; then it goes down to the root.
 pub fn root_of(n: u64) -> u64
@@ -200,11 +177,11 @@ pub fn root_of(n: u64) -> u64
     }
     let near = guess(n);
     if n < SMALL {
-        return up(n, down(n, near));
+        return up(2, n, down(2, n, near));
     }
     let nearer = step_above(n, near);
     if n < MIDDLE {
-        return down(n, nearer);
+        return down(2, n, nearer);
     }
-    down(n, step_above(n, nearer))
+    down(2, n, step_above(n, nearer))
 }

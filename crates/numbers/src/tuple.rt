@@ -1,127 +1,133 @@
 // Tuples of three to eight parts: 02, "in order of their largest part number, and within one largest number in
 // dictionary order".
-ghost use Rattle.std.specs.Prelude.{◌≡◌, false, ◌+◌, ◌^◌, ◌≤◌, ◌<◌, length, take, get_or};
+ghost use Rattle.std.specs.Prelude.{◌≡◌, false, ◌+◌, ◌*◌, ◌^◌, ◌≤◌, ◌<◌, length};
 ghost use Rattle.numbers.specs.Joined.{limit, capped};
-ghost use Rattle.numbers.specs.Pick.{pick};
-ghost use Rattle.numbers.specs.Tuple.{largest, tail, join, Splits};
-ghost use Rattle.numbers.specs.Weights.{Weights};
+ghost use Rattle.numbers.specs.Tuple.{largest, tail, split, join};
+ghost use Rattle.numbers.specs.Weights.{Weights, weight};
 
-use super::joined::{Joined, cap};
+use super::joined::cap;
 use super::power::{most, root};
 
 pub const MOST_PARTS: usize = 8;
 
-// How many lists of m part numbers up to r may follow, for each m below t: once r has been met all, and before only
-// those that have it.
-fn weigh(t: usize, r: u64, met: &mut [u64; MOST_PARTS], unmet: &mut [u64; MOST_PARTS])
-    requires { (t ≤ 8) × ((r + 1) ^ t < 2 ^ 63) × (length met.old ≡ 8) × (length unmet.old ≡ 8) }
-    ensures { Weights r t met.new unmet.new }
-{
-    let mut all: u64 = 1;
-    let mut having: u64 = 0;
-    for m in 0..t {
-        met[m] = all;
-        unmet[m] = having;
-        having = r * having + all;
-        all = r * all + all;
+// How many lists of part numbers up to r there are: once r has been met all that may follow, and before it those that
+// have it.
+#[derive(Clone, Copy, Debug, PartialEq, Eq)]
+struct Ways {
+    met: u64,
+    unmet: u64,
+}
+
+// Of no parts.
+const NONE: Ways = Ways { met: 1, unmet: 0 };
+
+impl Ways {
+    // Of one part more.
+    fn and_one(self, r: u64) -> Ways
+        requires { (r * self.met + self.met < 2 ^ 64) × (r * self.unmet + self.met < 2 ^ 64) }
+        ensures { (result.met ≡ r * self.met + self.met)
+            × (result.unmet ≡ r * self.unmet + self.met) }
+    {
+        Ways {
+            met: r * self.met + self.met,
+            unmet: r * self.unmet + self.met,
+        }
+    }
+
+    fn weight(self, seen: bool) -> u64
+        ensures { result ≡ weight self seen }
+    {
+        if seen { self.met } else { self.unmet }
     }
 }
 
-// The weight of a place with m places behind it.
-fn weight(seen: bool, m: usize, met: &[u64; MOST_PARTS], unmet: &[u64; MOST_PARTS]) -> u64
-    requires { (m < 8) × (length met.now ≡ 8) × (length unmet.now ≡ 8) }
-    ensures { result ≡ get_or (pick seen met.now unmet.now) m 0 }
+// The ways of each count of parts, from none on.
+fn weigh(r: u64, ways: &mut [Ways])
+    requires { (r + 1) ^ length ways.old < 2 ^ 63 }
+    ensures { Weights r ways.new }
 {
-    if seen { met[m] } else { unmet[m] }
+    let mut next = NONE;
+    for w in ways.iter_mut() {
+        *w = next;
+        next = next.and_one(r);
+    }
 }
 
-// The list at place d, in dictionary order, of those of t part numbers up to r that have r.
-fn spread(
-    t: usize,
-    r: u64,
-    d: u64,
-    met: &[u64; MOST_PARTS],
-    unmet: &[u64; MOST_PARTS],
-) -> [u64; MOST_PARTS]
-    requires { (t ≤ 8) × ((r + 1) ^ t < 2 ^ 63) × Weights r t met.now unmet.now }
-    ensures { (length result ≡ 8) × (take t result ≡ tail false r t d) }
+// The list at place d, in dictionary order, of those of part numbers up to r that have r.
+fn spread(r: u64, d: u64, ways: &[Ways], parts: &mut [u64])
+    requires fits { (r + 1) ^ length ways.now < 2 ^ 63 }
+    requires weights { Weights r ways.now }
+    requires long { length parts.old ≡ length ways.now }
+    ensures { parts.new ≡ tail false r (length parts.old) d }
 {
-    let mut parts = [0u64; MOST_PARTS];
     let mut left = d;
     let mut seen = false;
-    for j in 0..t {
-        let w = weight(seen, t - 1 - j, met, unmet);
+    for (j, part) in parts.iter_mut().enumerate() {
+        let w = ways[ways.len() - 1 - j].weight(seen);
         if left < r * w {
-            parts[j] = left / w;
-            left = left % w;
+            *part = left / w;
+            left %= w;
         } else {
-            parts[j] = r;
+            *part = r;
             left -= r * w;
             seen = true;
         }
     }
-    parts
 }
 
-pub fn split(t: usize, n: u64) -> [u64; MOST_PARTS]
-    requires { (3 ≤ t) × (t ≤ 8) × (n ≤ limit) }
-    ensures { Splits t n result }
+// The part numbers of number n, as many as are lent.
+pub fn split(n: u64, parts: &mut [u64])
+    requires { (3 ≤ length parts.old) × (length parts.old ≤ 8) × (n ≤ limit) }
+    ensures { parts.new ≡ split (length parts.old) n }
 {
+    let t = parts.len();
     let r = root(t, n);
-    let mut met = [0u64; MOST_PARTS];
-    let mut unmet = [0u64; MOST_PARTS];
-    weigh(t, r, &mut met, &mut unmet);
+    let mut all = [NONE; MOST_PARTS];
+    let ways = &mut all[..t];
+    weigh(r, ways);
+    let last = ways[t - 1];
     // r^t, the number of tuples with a lower largest number
-    let lower = r * (met[t - 1] - unmet[t - 1]);
-    spread(t, r, n - lower, &met, &unmet)
+    let lower = r * (last.met - last.unmet);
+    spread(r, n - lower, ways, parts);
 }
 
-fn largest(parts: &[u64; MOST_PARTS], t: usize) -> u64
-    requires { (t ≤ 8) × (length parts.now ≡ 8) }
-    ensures { result ≡ largest (take t parts.now) }
+fn largest(parts: &[u64]) -> u64
+    ensures { result ≡ largest parts.now }
 {
-    let mut r = 0;
-    for i in 0..t {
-        let x = parts[i];
-        if r < x {
-            r = x;
-        }
-    }
-    r
+    parts.iter().copied().max().unwrap_or(0)
 }
 
-// The number of part numbers of which r is the largest. It goes from the last one on, with the ways and the place of
-// those behind, once r has been met and before: so it needs no arrays of ways.
-fn number(parts: &[u64; MOST_PARTS], t: usize, r: u64) -> u64
-    requires { (t ≤ 8) × ((r + 1) ^ t < 2 ^ 63) × (length parts.now ≡ 8) × (r ≡ largest (take t parts.now)) }
-    ensures { result ≡ join (take t parts.now) }
+// The number of part numbers of which r is the largest. It goes from the last one on, with the ways of those behind and how
+// many of them come before.
+fn number(parts: &[u64], r: u64) -> u64
+    requires { ((r + 1) ^ length parts.now < 2 ^ 63) × (r ≡ largest parts.now) }
+    ensures { result ≡ join parts.now }
 {
-    let mut met: u64 = 1;
-    let mut unmet: u64 = 0;
-    let mut rank_met: u64 = 0;
-    let mut rank_unmet: u64 = 0;
-    for i in 0..t {
-        let x = parts[t - 1 - i];
-        rank_unmet = if x < r {
-            x * unmet + rank_unmet
+    let mut ways = NONE;
+    let mut before = Ways { met: 0, unmet: 0 };
+    for x in parts.iter().rev() {
+        let unmet = if *x < r {
+            x * ways.unmet + before.unmet
         } else {
-            r * unmet + rank_met
+            r * ways.unmet + before.met
         };
-        rank_met = x * met + rank_met;
-        unmet = r * unmet + met;
-        met = r * met + met;
+        before = Ways {
+            met: x * ways.met + before.met,
+            unmet,
+        };
+        ways = ways.and_one(r);
     }
-    met - unmet + rank_unmet
+    ways.met - ways.unmet + before.unmet
 }
 
 // Past the largest root the power alone is past the limit.
-pub fn join(parts: &[u64; MOST_PARTS], t: usize) -> Joined
-    requires { (3 ≤ t) × (t ≤ 8) × (length parts.now ≡ 8) }
-    ensures { result ≡ capped (join (take t parts.now)) }
+pub fn join(parts: &[u64]) -> Option<u64>
+    requires { (3 ≤ length parts.now) × (length parts.now ≤ 8) }
+    ensures { result ≡ capped (join parts.now) }
 {
-    let r = largest(parts, t);
-    if most(t) < r {
-        return Joined::Big;
+    let r = largest(parts);
+    if most(parts.len()) < r {
+        return None;
     }
-    cap(number(parts, t, r))
+    cap(number(parts, r))
 }

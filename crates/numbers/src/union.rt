@@ -6,6 +6,7 @@ use super::cons::Pair;
 use super::divided::divided;
 
 // The part, and the number in it: what dep has for endless seconds.
+#[tactic(auto, unfolding(crate::specs::Dep::split))]
 pub fn split(k: usize, n: u64) -> Pair
     requires { (3 ≤ k) × (k ≤ 8) }
     ensures { result ≡ split (endlesses k) n }

@@ -10,7 +10,7 @@ ghost use Rattle.grammar.specs.Plan.{blank, size_in, coded, Enters, AllWeighed};
 use grammar::entry::Entry;
 use grammar::kind::Kind;
 use grammar::kinds::{KINDS, asks, row, used_words};
-use grammar::refusal::{Refusal, Verdict};
+use grammar::refusal::{Refusal, Refused};
 
 // "a word not used is zero"
 fn spare_words(kind: Kind, a: u64, b: u64, used: &[[bool; 2]; KINDS]) -> bool
@@ -44,7 +44,7 @@ fn weigh(
 }
 
 // "then nodes rising": the first fault and its node, or the plan of them all.
-pub fn weigh_all(table: &[u64], pool: &[u64], plan: &mut [Entry]) -> Verdict
+pub fn weigh_all(table: &[u64], pool: &[u64], plan: &mut [Entry]) -> Result<(), Refused>
     requires table_len { length table.now ≡ 3 * nodes table.now }
     requires plan_value { (plan.old ≡ replicate (length plan.old) blank) × (nodes table.now ≤ length plan.old) }
     ensures { AllWeighed table.now pool.now plan.new result }
@@ -52,9 +52,14 @@ pub fn weigh_all(table: &[u64], pool: &[u64], plan: &mut [Entry]) -> Verdict
     let used = used_words();
     for n in 0..table.len() / 3 {
         match weigh(table, pool, plan, n, &used) {
-            Err(r) => return Verdict::Refused(r, n as u64),
+            Err(refusal) => {
+                return Err(Refused {
+                    refusal,
+                    node: n as u64,
+                });
+            }
             Ok(entry) => plan[n] = entry,
         }
     }
-    Verdict::Accepted
+    Ok(())
 }

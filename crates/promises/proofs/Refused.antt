@@ -9,6 +9,7 @@ use mathlib.Core.Bool.{Bool, true, false}
 use mathlib.Core.Logic.{⊎_elim}
 use mathlib.Core.List.{List}
 use Prim.Native.Nat.{ℕ, ◌≤◌, ◌<◌}
+use Rattle.grammar.specs.Refusals.{Verdict, accepted, refused}
 use Rattle.numbers.specs.Size.{Size}
 use Rattle.graph.specs.Lowest.{Lowest}
 use Rattle.lists.proofs.Order.{le_or_lt}
@@ -20,8 +21,6 @@ use Rattle.grammar.specs.Steps.{Unguarded, ExceptOnCycle}
 use Rattle.grammar.specs.Verdict.{unguarded, except_on_cycle, settled, verdict}
 use Rattle.grammar.specs.declared.refusal.Refusal.{Refusal}
 use Rattle.grammar.specs.declared.refusal.Refusal.TheVariants.{Length, Unguarded as Rule9, ExceptOnCycle as Rule10}
-use Rattle.grammar.specs.declared.refusal.Verdict.{Verdict}
-use Rattle.grammar.specs.declared.refusal.Verdict.TheVariants.{Accepted, Refused}
 use Rattle.grammar.proofs.Faults.{FirstFault, in_row_lem, first_of, scan_by}
 use Rattle.cycles.proofs.Table.{unguarded_is, except_is}
 use Rattle.cases.proofs.Meaning.{table_checked, verdict_9, verdict_10, verdict_accepted}
@@ -40,11 +39,11 @@ Tens t p h n = Lowest (ExceptOnCycle t p (size_at h.zs)) n
 
 -- what a verdict is, whatever it is
 pub data Because (t p : List ℕ) : Verdict → Type 0 where
-  by_length : lengths t p ≡ false → Because t p (Refused Length 0)
-  by_row : {r : Refusal} {k : ℕ} → lengths t p ≡ true → FirstFault t p r k → 2 ≤ number_of r → number_of r ≤ 8 → Because t p (Refused r k)
-  by_9 : (h : Passes t p) {n : ℕ} → n < 256 → Nines t p h n → Because t p (Refused Rule9 n)
-  by_10 : (h : Passes t p) {n : ℕ} → n < 256 → Nines t p h 256 → Tens t p h n → Because t p (Refused Rule10 n)
-  by_none : (h : Passes t p) → Nines t p h 256 → Tens t p h 256 → Because t p Accepted
+  by_length : lengths t p ≡ false → Because t p (refused Length 0)
+  by_row : {r : Refusal} {k : ℕ} → lengths t p ≡ true → FirstFault t p r k → 2 ≤ number_of r → number_of r ≤ 8 → Because t p (refused r k)
+  by_9 : (h : Passes t p) {n : ℕ} → n < 256 → Nines t p h n → Because t p (refused Rule9 n)
+  by_10 : (h : Passes t p) {n : ℕ} → n < 256 → Nines t p h 256 → Tens t p h n → Because t p (refused Rule10 n)
+  by_none : (h : Passes t p) → Nines t p h 256 → Tens t p h 256 → Because t p accepted
 
 module _ (t p : List ℕ) where
   -- ---- each reason has its verdict

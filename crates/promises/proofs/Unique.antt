@@ -7,23 +7,23 @@
 use mathlib.Core.Path.{◌≡◌, sym, ap, ◌∙◌}
 use mathlib.Core.List.{List}
 use Prim.Native.Nat.{ℕ}
+use Rattle.grammar.specs.Refusals.{Verdict}
+use Rattle.cases.specs.Read.{Found}
+use Rattle.cases.specs.Write.{Written}
+use Rattle.rows.specs.Row.{Outcome}
+use Rattle.rows.specs.Reader.{Reply}
 use Rattle.grammar.specs.Verdict.{answer, check_says}
 use Rattle.grammar.specs.Refusals.{number_of}
 use Rattle.grammar.specs.declared.refusal.Refusal.{Refusal}
-use Rattle.grammar.specs.declared.refusal.Verdict.{Verdict}
 use Rattle.grammar.specs.Sizes.{rules_of}
 use Rattle.walk.specs.Walk.{walk, cells, depth}
 use Rattle.cases.specs.Write.{Wrote}
 use Rattle.cases.specs.Write as Write
 use Rattle.cases.specs.Read.{read_of, read_says}
-use Rattle.cases.specs.declared.writing.Written.{Written}
-use Rattle.cases.specs.declared.reading.Found.{Found}
 use Rattle.rows.specs.Row.{leaves}
 use Rattle.rows.specs.WriteRow.{row_of, WroteRow}
 use Rattle.rows.specs.ReadRow.{gather, gotten, GotRow}
 use Rattle.rows.specs.Reader.{Strode}
-use Rattle.rows.specs.declared.answer.Row.{Row}
-use Rattle.rows.specs.declared.reader.Next.{Next}
 use Rattle.grammar.proofs.Values.{answer_one}
 use Rattle.cases.proofs.Values.{found_one, wrote_is}
 use Rattle.rows.proofs.Values.{wrote_row_is, got_row_is, next_one}
@@ -42,21 +42,21 @@ module _ (t p : List ℕ) (i : ℕ) where
   pub one_reading : (cs : List ℕ) {r r' : Found} → read_of r ≡ read_says t p i cs → read_of r' ≡ read_says t p i cs → r ≡ r'
   one_reading cs {r} {r'} e f = found_one r r' (e ∙ sym f)
 
-  pub one_row_writing : {ns old last last' : List ℕ} {r r' : Row} → WroteRow t p i ns old last r → WroteRow t p i ns old last' r' → (r ≡ r') × (last ≡ last')
+  pub one_row_writing : {ns old last last' : List ℕ} {r r' : Outcome} → WroteRow t p i ns old last r → WroteRow t p i ns old last' r' → (r ≡ r') × (last ≡ last')
   one_row_writing {ns} {old} h k =
       let same = wrote_row_is h ∙ sym (wrote_row_is k) in
-      (same, h.holds ∙ ap (λ (x : Row). leaves x (row_of (rules_of t p) i ns) old) same ∙ sym k.holds)
+      (same, h.holds ∙ ap (λ (x : Outcome). leaves x (row_of (rules_of t p) i ns) old) same ∙ sym k.holds)
 
-  pub one_row_reading : {cs old last last' : List ℕ} {r r' : Row} → GotRow t p i cs old last r → GotRow t p i cs old last' r' → (r ≡ r') × (last ≡ last')
+  pub one_row_reading : {cs old last last' : List ℕ} {r r' : Outcome} → GotRow t p i cs old last r → GotRow t p i cs old last' r' → (r ≡ r') × (last ≡ last')
   one_row_reading {cs} {old} h k =
       let same = got_row_is h ∙ sym (got_row_is k) in
-      (same, h.holds ∙ ap (λ (x : Row). leaves x (gotten (gather (rules_of t p) i (length old) cs)) old) same ∙ sym k.holds)
+      (same, h.holds ∙ ap (λ (x : Outcome). leaves x (gotten (gather (rules_of t p) i (length old) cs)) old) same ∙ sym k.holds)
 
-  pub one_stride : (row : List ℕ) (at : ℕ) {n n' : Next} {to to' : ℕ} → Strode t p i row at n to → Strode t p i row at n' to' → (n ≡ n') × (to ≡ to')
+  pub one_stride : (row : List ℕ) (at : ℕ) {n n' : Reply} {to to' : ℕ} → Strode t p i row at n to → Strode t p i row at n' to' → (n ≡ n') × (to ≡ to')
   one_stride row at {n} {n'} h k = (next_one n n' (h.says ∙ sym k.says), h.goes ∙ sym k.goes)
 
   -- of a reader: its answer, its row and its place
-  pub one_next : {A : Type 0} {row : A} (cells : List ℕ) (at : ℕ) {n n' : Next} {to to' : ℕ} {x x' : A} → Strode t p i cells at n to × (x ≡ row)
+  pub one_next : {A : Type 0} {row : A} (cells : List ℕ) (at : ℕ) {n n' : Reply} {to to' : ℕ} {x x' : A} → Strode t p i cells at n to × (x ≡ row)
       → Strode t p i cells at n' to' × (x' ≡ row) → (n ≡ n') × (to ≡ to') × (x ≡ x')
   one_next cells at h k = let (e, f) = one_stride cells at h.0 k.0 in (e, f, h.1 ∙ sym k.1)
 

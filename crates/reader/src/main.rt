@@ -4,7 +4,7 @@
 
 ghost use Rattle.reader.specs.Asked.{Asked};
 
-use grammar::refusal::number_of;
+use grammar::refusal::{Refused, number_of};
 use rows::{Next, Reader};
 
 // Standard output's number, as the system has it.
@@ -21,10 +21,10 @@ const START: usize = 8;
 // What a reader answered, in turn.
 #[derive(Drop)]
 struct Four {
-    first: Next,
-    second: Next,
-    third: Next,
-    fourth: Next,
+    first: Result<Option<Next>, Refused>,
+    second: Result<Option<Next>, Refused>,
+    third: Result<Option<Next>, Refused>,
+    fourth: Result<Option<Next>, Refused>,
 }
 
 fn ask_four(table: &[u64], pool: &[u64], start: usize, row: &[u64]) -> Four
@@ -51,21 +51,21 @@ fn say_number(n: u64) {
     io::print_decimal(STDOUT_FILENO, n);
 }
 
-fn say_next(next: Next) {
-    match next {
-        Next::Item(n, cells) => {
+fn say_answer(answer: Result<Option<Next>, Refused>) {
+    match answer {
+        Ok(Some(next)) => {
             say(b"number ");
-            say_number(n);
+            say_number(next.number);
             say(b", ");
-            say_number(cells as u64);
+            say_number(next.cells as u64);
             say(b" cells\n");
         }
-        Next::End => say(b"end\n"),
-        Next::Refused(r, k) => {
+        Ok(None) => say(b"end\n"),
+        Err(e) => {
             say(b"refused ");
-            say_number(number_of(r));
+            say_number(number_of(e.refusal));
             say(b" at ");
-            say_number(k);
+            say_number(e.node);
             say(b"\n");
         }
     }
@@ -76,14 +76,10 @@ fn say_four(title: &[u8], start: usize, row: &[u64]) {
     let table = SESSION;
     let pool = MODES;
     let four = ask_four(&table, &pool, start, row);
-    let first = four.first;
-    let second = four.second;
-    let third = four.third;
-    let fourth = four.fourth;
-    say_next(first);
-    say_next(second);
-    say_next(third);
-    say_next(fourth);
+    say_answer(four.first);
+    say_answer(four.second);
+    say_answer(four.third);
+    say_answer(four.fourth);
 }
 
 fn main() {

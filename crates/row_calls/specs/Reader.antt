@@ -3,20 +3,18 @@
 --   asks_text    of a row: "asks again and again"
 --   reader_call  of the rest of its line
 -- Assumes nothing.
-use Rattle.std.specs.Prelude.{List, [], ◌++◌, ℕ, zero, suc, length}
-use Rattle.rows.specs.Reader.{next_of, after_of}
-use Rattle.rows.specs.declared.reader.Next.{Next}
-use Rattle.rows.specs.declared.reader.Next.TheVariants.{Item, End, Refused}
+use Rattle.std.specs.Prelude.{List, [], ◌++◌, ℕ, zero, suc, length, Some, None, Ok, Err}
+use Rattle.rows.specs.Reader.{Reply, next_of, after_of}
 use Rattle.texts.specs.Ascii.{bytes}
 use Rattle.texts.specs.Said.{refused_line}
 use Rattle.asking.specs.Fields.{fields_of, cells_of, with_cells}
 use Rattle.asking.specs.Texts.{item_text}
 
 -- "`number N, C cells` for each item, and `end` at the row's end"; "`refused R at K`, and it stops"
-abbrev pub onward : Next → List ℕ → List ℕ
-onward (Item n k) rest = item_text n k ++ rest
-onward End rest = bytes "end\n"
-onward (Refused r k) rest = refused_line r k
+abbrev pub onward : Reply → List ℕ → List ℕ
+onward (Ok (Some n)) rest = item_text n.number n.cells ++ rest
+onward (Ok None) rest = bytes "end\n"
+onward (Err e) rest = refused_line e.refusal e.node
 
 -- asked at most f times; a row has no more items than cells, and the end is an ask too
 unfoldable pub asks_by : ℕ → List ℕ → List ℕ → ℕ → List ℕ → ℕ → List ℕ

@@ -11,17 +11,15 @@ use lib.ListN.{length, take}
 use Rattle.grammar.specs.Table.{nodes}
 use Rattle.grammar.specs.Verdict.{verdict}
 use Rattle.grammar.specs.declared.refusal.Refusal.{Refusal}
-use Rattle.grammar.specs.declared.refusal.Verdict.TheVariants.{Accepted}
+use Rattle.grammar.specs.Refusals.{accepted, refused}
 use Rattle.grammar.specs.Rule.{Rule}
 use Rattle.grammar.specs.Sizes.{rules_of}
 use Rattle.checked.proofs.Opens.{opens}
 use Rattle.rows.specs.WriteRow.{in_turn, writes_row, WroteRow}
 use Rattle.rows.specs.ReadRow.{gather, answered, gotten, reads_row, GotRow}
-use Rattle.rows.specs.Reader.{next, stride_of}
+use Rattle.rows.specs.Reader.{at_end, next, stride_of}
 use Rattle.rows.specs.Cut.{Cut, joined, hand_out, asks}
-use Rattle.rows.specs.declared.answer.Row.{Row}
-use Rattle.rows.specs.declared.answer.Row.TheVariants.{Done, Refused}
-use Rattle.rows.specs.declared.reader.Next.TheVariants.{End, Refused as Not-handed}
+use Rattle.rows.specs.Row.{Outcome, done, refused_at}
 use Rattle.rows.proofs.WrittenInTurn.{done_row}
 use Rattle.rows.proofs.Cuts.{turns_cut, cut_turns, gather_cut, cut_gather, cut_stopped, asks_cut}
 use Rattle.rows.proofs.Gathering.{answered_all, answered_stopped}
@@ -29,11 +27,11 @@ use Rattle.rows.proofs.CountedRows.{row_size, row_cells, got_numbers}
 use Rattle.rows.proofs.Values.{wrote_row_is, got_row_is}
 
 -- an answer and its words, said by equals
-pub said_by : {w : Row} (last : List ℕ) {xs ys : List ℕ} {m m' c c' : ℕ} → (w ≡ Done m' c') × (take c' last ≡ xs) → m' ≡ m → c' ≡ c → xs ≡ ys → (w ≡ Done m c)
+pub said_by : {w : Outcome} (last : List ℕ) {xs ys : List ℕ} {m m' c c' : ℕ} → (w ≡ done m' c') × (take c' last ≡ xs) → m' ≡ m → c' ≡ c → xs ≡ ys → (w ≡ done m c)
     × (take c last ≡ ys)
 said_by last h e f s = (h.0 ∙ cc (e, f), ap (λ (k : ℕ). take k last) (sym f) ∙ h.1 ∙ s)
 
-module _ (t p : List ℕ) (a : verdict t p ≡ Accepted) (i : ℕ) (l : i < nodes t) where
+module _ (t p : List ℕ) (a : verdict t p ≡ accepted) (i : ℕ) (l : i < nodes t) where
   abbrev g : ℕ → Rule
   g = rules_of t p
 
@@ -46,29 +44,29 @@ module _ (t p : List ℕ) (a : verdict t p ≡ Accepted) (i : ℕ) (l : i < node
   reads_row_is room cs = rw (opens t p a i l)
 
   -- ---- writing
-  pub wrote_cut : {ns : List ℕ} {css : List (List ℕ)} → Cut g i ns css → {old last : List ℕ} {w : Row} → length (joined css) ≤ length old
-      → WroteRow t p i ns old last w → (w ≡ Done (length ns) (length (joined css))) × (take (length (joined css)) last ≡ joined css)
+  pub wrote_cut : {ns : List ℕ} {css : List (List ℕ)} → Cut g i ns css → {old last : List ℕ} {w : Outcome} → length (joined css) ≤ length old
+      → WroteRow t p i ns old last w → (w ≡ done (length ns) (length (joined css))) × (take (length (joined css)) last ≡ joined css)
   wrote_cut {ns} {css} cut {old} {last} {w} f h =
       let (e, same) = turns_cut t p a i l (length old) cut f in
-      let is : w ≡ Done (length ns) (length (joined css)) = wrote_row_is h ∙ writes_row_is (length old) ns ∙ e in
+      let is : w ≡ done (length ns) (length (joined css)) = wrote_row_is h ∙ writes_row_is (length old) ns ∙ e in
       (is, row_cells h is ∙ same)
 
-  pub cut_wrote : {ns old last : List ℕ} {m c : ℕ} → WroteRow t p i ns old last (Done m c)
+  pub cut_wrote : {ns old last : List ℕ} {m c : ℕ} → WroteRow t p i ns old last (done m c)
       → (css : List (List ℕ)) × Cut g i ns css × (m ≡ length ns) × (c ≡ length (joined css)) × (take c last ≡ joined css)
   cut_wrote {ns} {old} {last} {m} {c} h =
-      let e : in_turn g i (length old) ns ≡ Done m c = sym (wrote_row_is h ∙ writes_row_is (length old) ns) in
+      let e : in_turn g i (length old) ns ≡ done m c = sym (wrote_row_is h ∙ writes_row_is (length old) ns) in
       let (css, cut, same) = cut_turns t p a i l (length old) ns e in
       (css, cut, (done_row g i (length old) ns e).0, row_size h refl ∙ ap length (sym same), row_cells h refl ∙ sym same)
 
   -- ---- reading
-  pub got_cut : {ns : List ℕ} {css : List (List ℕ)} → Cut g i ns css → {old last : List ℕ} {r : Row} → length ns ≤ length old
-      → GotRow t p i (joined css) old last r → (r ≡ Done (length ns) (length (joined css))) × (take (length ns) last ≡ ns)
+  pub got_cut : {ns : List ℕ} {css : List (List ℕ)} → Cut g i ns css → {old last : List ℕ} {r : Outcome} → length ns ≤ length old
+      → GotRow t p i (joined css) old last r → (r ≡ done (length ns) (length (joined css))) × (take (length ns) last ≡ ns)
   got_cut {ns} {css} cut {old} {last} {r} f h =
       let e = gather_cut t p a i l (length old) cut f in
-      let is : r ≡ Done (length ns) (length (joined css)) = got_row_is h ∙ reads_row_is (length old) (joined css) ∙ ap (answered (length (joined css))) e in
+      let is : r ≡ done (length ns) (length (joined css)) = got_row_is h ∙ reads_row_is (length old) (joined css) ∙ ap (answered (length (joined css))) e in
       (is, got_numbers h is ∙ ap gotten e)
 
-  pub cut_got : {cs old last : List ℕ} {m c : ℕ} → GotRow t p i cs old last (Done m c)
+  pub cut_got : {cs old last : List ℕ} {m c : ℕ} → GotRow t p i cs old last (done m c)
       → (css : List (List ℕ)) × Cut g i (take m last) css × (joined css ≡ cs) × (length (take m last) ≡ m) × (length cs ≡ c)
   cut_got {cs} {old} {last} {m} {c} h =
       let (ns, e, many, used) = answered_all (length cs) (gather g i (length old) cs) (sym (got_row_is h ∙ reads_row_is (length old) cs)) in
@@ -76,19 +74,19 @@ module _ (t p : List ℕ) (a : verdict t p ≡ Accepted) (i : ℕ) (l : i < node
       let these : take m last ≡ ns = got_numbers h refl ∙ ap gotten e in
       (css, subst (λ (xs : List ℕ). Cut g i xs css) (sym these) cut, same, ap length these ∙ many, used)
 
-  pub got_stopped : {row old last : List ℕ} {r : Refusal} {item : ℕ} → GotRow t p i row old last (Refused r 0 item) → length row ≤ length old
+  pub got_stopped : {row old last : List ℕ} {r : Refusal} {item : ℕ} → GotRow t p i row old last (refused_at r 0 item) → length row ≤ length old
       → (ns : List ℕ) × (css : List (List ℕ)) × (rest : List ℕ) × Cut g i ns css × (row ≡ joined css ++ rest) × (item ≡ length ns) ×
-      (next g i rest ≡ Not-handed r 0)
+      (next g i rest ≡ refused r 0)
   got_stopped {row} {old} {last} {r} {item} h f =
       cut_stopped t p a i l (length old) row item f (answered_stopped (length row) (gather g i (length old) row) (sym (got_row_is h ∙ reads_row_is
       (length old) row)))
 
   -- ---- the reader
   module _ {ns : List ℕ} {css : List (List ℕ)} (cut : Cut g i ns css) (row : List ℕ) {m : ℕ} (many : m ≡ length ns) where
-    pub asks_end : joined css ≡ row → asks (stride_of t p i row) (suc m) 0 ≡ hand_out 0 ns css End
+    pub asks_end : joined css ≡ row → asks (stride_of t p i row) (suc m) 0 ≡ hand_out 0 ns css at_end
     unfolding next
-    asks_end e = rw many (asks_cut t p a i l row [] 0 End refl (λ to. refl) cut (sym e ∙ sym (append-nil (joined css))))
+    asks_end e = rw many (asks_cut t p a i l row [] 0 at_end refl (λ to. refl) cut (sym e ∙ sym (append-nil (joined css))))
 
-    pub asks_refused : (rest : List ℕ) {r : Refusal} → row ≡ joined css ++ rest → next g i rest ≡ Not-handed r 0
-        → asks (stride_of t p i row) (suc m) 0 ≡ hand_out 0 ns css (Not-handed r 0)
-    asks_refused rest {r} e f = rw many (asks_cut t p a i l row rest 0 (Not-handed r 0) f (λ to. refl) cut e)
+    pub asks_refused : (rest : List ℕ) {r : Refusal} → row ≡ joined css ++ rest → next g i rest ≡ refused r 0
+        → asks (stride_of t p i row) (suc m) 0 ≡ hand_out 0 ns css (refused r 0)
+    asks_refused rest {r} e f = rw many (asks_cut t p a i l row rest 0 (refused r 0) f (λ to. refl) cut e)

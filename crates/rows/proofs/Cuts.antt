@@ -16,7 +16,8 @@ use borrow.Author.Tests.{lt-ltb}
 use Rattle.grammar.specs.Table.{nodes}
 use Rattle.grammar.specs.Verdict.{verdict}
 use Rattle.grammar.specs.declared.refusal.Refusal.{Refusal}
-use Rattle.grammar.specs.declared.refusal.Verdict.TheVariants.{Accepted}
+use Rattle.std.specs.Prelude.{Ok}
+use Rattle.grammar.specs.Refusals.{accepted, refused as refuses}
 use Rattle.grammar.specs.Rule.{Rule}
 use Rattle.grammar.specs.Sizes.{rules_of}
 use Rattle.walk.specs.Walk.{cells, depth}
@@ -24,18 +25,15 @@ use Rattle.walk.specs.Room.{Case, most}
 use Rattle.walk.specs.Run.{run}
 use Rattle.checked.specs.Fits.{case_cells, Asked, fitted}
 use Rattle.checked.specs.Item.{Front, number, refused, front_of, front}
-use Rattle.checked.specs.declared.fits.Fit.TheVariants.{Cells}
 use Rattle.checked.proofs.Fitted.{cells_map, fitted_is, fitted_cells}
 use Rattle.cases.proofs.WalkAnswers.{front_number}
 use Rattle.cases.proofs.BothSides.{case_some, reads_on, read_case}
 use Rattle.rows.specs.WriteRow.{in_turn, row_of}
 use Rattle.rows.specs.ReadRow.{Gathered, all, stopped, after, gather}
 use Rattle.rows.specs.ReadRow as Rows-read
-use Rattle.rows.specs.Reader.{next, next_of, after_of, stride_of}
+use Rattle.rows.specs.Reader.{Reply, hands, next, next_of, after_of, stride_of}
 use Rattle.rows.specs.Cut.{Cut, none, item, joined, hand_out, asks}
-use Rattle.rows.specs.declared.answer.Row.TheVariants.{Done}
-use Rattle.rows.specs.declared.reader.Next.{Next}
-use Rattle.rows.specs.declared.reader.Next.TheVariants.{Item, Refused}
+use Rattle.rows.specs.Row.{done}
 use Rattle.rows.proofs.WrittenInTurn.{onward_done}
 use Rattle.rows.proofs.Gathering.{gather_none, gather_full, gather_more, full_not, onward_all, gathered_none}
 use Rattle.checked.proofs.Opens.{opens}
@@ -57,7 +55,7 @@ after_stopped n (stopped x j) {r} {k} e =
     let s' : suc j ≡ k = cc in
     (j, ap (λ y. stopped y j) s, sym s')
 
-module _ (t p : List ℕ) (a : verdict t p ≡ Accepted) (i : ℕ) (l : i < nodes t) where
+module _ (t p : List ℕ) (a : verdict t p ≡ accepted) (i : ℕ) (l : i < nodes t) where
   abbrev g : ℕ → Rule
   g = rules_of t p
 
@@ -75,18 +73,18 @@ module _ (t p : List ℕ) (a : verdict t p ≡ Accepted) (i : ℕ) (l : i < node
 
   -- ---- writing
   pub turns_cut : {ns : List ℕ} {css : List (List ℕ)} (room : ℕ) → Cut g i ns css → length (joined css) ≤ room
-      → (in_turn g i room ns ≡ Done (length ns) (length (joined css))) × (row_of g i ns ≡ joined css)
+      → (in_turn g i room ns ≡ done (length ns) (length (joined css))) × (row_of g i ns ≡ joined css)
   unfolding in_turn row_of joined
   turns_cut room none f = (refl, refl)
   turns_cut room (item {n} {ns} {cs} {css} q c k) f =
       let many = length-append cs (joined css) in
       let (x, y) = turns_cut (room - length cs) k (omega arith) in
-      let w : fitted g i n room ≡ Cells (length cs) = fitted_is g i n room cs q c.shows (omega (arith, c.few)) in
+      let w : fitted g i n room ≡ Ok (length cs) = fitted_is g i n room cs q c.shows (omega (arith, c.few)) in
       let one : 1 + length ns ≡ suc (length ns) = omega arith in
       let shown : case_cells g i n ≡ cs = rw c.shows (cells_map cs) in
       (rw (w, x, one, many), rw (shown, y))
 
-  pub cut_turns : (room : ℕ) (ns : List ℕ) {m c : ℕ} → in_turn g i room ns ≡ Done m c → (css : List (List ℕ)) × Cut g i ns css × (joined css ≡ row_of g i ns)
+  pub cut_turns : (room : ℕ) (ns : List ℕ) {m c : ℕ} → in_turn g i room ns ≡ done m c → (css : List (List ℕ)) × Cut g i ns css × (joined css ≡ row_of g i ns)
   unfolding in_turn row_of joined
   cut_turns room [] e = ([], none, refl)
   cut_turns room (n ∷ ns) e =
@@ -119,19 +117,19 @@ module _ (t p : List ℕ) (a : verdict t p ≡ Accepted) (i : ℕ) (l : i < node
   unfolding next_of
   next_is row at = rw (opens t p a i l)
 
-  counted : (n : ℕ) (xs ys : List ℕ) → Item n (length (xs ++ ys) - length ys) ≡ Item n (length xs)
+  counted : (n : ℕ) (xs ys : List ℕ) → hands n (length (xs ++ ys) - length ys) ≡ hands n (length xs)
   counted n xs ys = let s : length (xs ++ ys) - length ys ≡ length xs = omega (arith, length-append xs ys) in rw s
 
   next_case : (row : List ℕ) (at : ℕ) {n : ℕ} {cs : List ℕ} (rest : List ℕ) → Asked (g i).size n → Case g i n cs → drop at row ≡ cs ++ rest
-      → next_of t p i row at ≡ Item n (length cs)
+      → next_of t p i row at ≡ hands n (length cs)
   next_case row at {n} {cs} rest q c e = next_is row at ∙ rw (e, next_some g i (cs ++ rest) (some_cells rest q c), front_case q c rest) (counted n cs rest)
 
   pub stride_case : {n : ℕ} {cs : List ℕ} → Asked (g i).size n → Case g i n cs → (before rest : List ℕ)
-      → stride_of t p i (before ++ (cs ++ rest)) (length before) ≡ record { answer = Item n (length cs); at = length before + length cs }
+      → stride_of t p i (before ++ (cs ++ rest)) (length before) ≡ record { answer = hands n (length cs); at = length before + length cs }
   stride_case {n} {cs} q c before rest = rw (next_case (before ++ (cs ++ rest)) (length before) rest q c (drop-append_seam before (cs ++ rest)))
 
   -- the items of a cut, and then what stands at the front of the rest
-  pub asks_cut : (row rest : List ℕ) (at : ℕ) (last : Next) {ns : List ℕ} {css : List (List ℕ)} → next g i rest ≡ last → ((to : ℕ) → after_of to last ≡ to)
+  pub asks_cut : (row rest : List ℕ) (at : ℕ) (last : Reply) {ns : List ℕ} {css : List (List ℕ)} → next g i rest ≡ last → ((to : ℕ) → after_of to last ≡ to)
       → Cut g i ns css → drop at row ≡ joined css ++ rest → asks (stride_of t p i row) (suc (length ns)) at ≡ hand_out at ns css last
   unfolding asks hand_out joined
   asks_cut row rest at last f stays none e =
@@ -141,12 +139,12 @@ module _ (t p : List ℕ) (a : verdict t p ≡ Accepted) (i : ℕ) (l : i < node
       let whole : drop at row ≡ cs ++ (joined css ++ rest) = e ∙ append_assoc cs (joined css) rest in
       let there : drop (at + length cs) row ≡ joined css ++ rest = sym (drop-drop (length cs) at row) ∙ rw whole (drop-append_seam cs (joined css ++ rest)) in
       rw (next_case row at (joined css ++ rest) q c whole)
-      (ap (λ more. record { answer = Item n (length cs); at = at + length cs } ∷ more) (asks_cut row rest (at + length cs) last f stays k there))
+      (ap (λ more. record { answer = hands n (length cs); at = at + length cs } ∷ more) (asks_cut row rest (at + length cs) last f stays k there))
 
   -- ---- a row that is refused: the items before it are cut, and it stands at the front of the rest
   abbrev StoppedAt : List ℕ → Refusal → ℕ → Type 0
   StoppedAt cs r k = (ns : List ℕ) × (css : List (List ℕ)) × (rest : List ℕ) × Cut g i ns css × (cs ≡ joined css ++ rest) × (k ≡ length ns) ×
-      (next g i rest ≡ Refused r 0)
+      (next g i rest ≡ refuses r 0)
 
   stopped_by : (room : ℕ) (cs : List ℕ) {r : Refusal} {k : ℕ} → length cs ≤ suc room → 0 < length cs
       → ((ds : List ℕ) (j : ℕ) → length ds ≤ room → gather g i room ds ≡ stopped r j → StoppedAt ds r j)

@@ -16,13 +16,15 @@ use Rattle.grammar.specs.Rule.{Rule}
 use Rattle.lists.specs.Filled.{over}
 use Rattle.checked.specs.Item.{Front, number, refused, front, Stood}
 use Rattle.checked.specs.declared.item.Item.{Item}
-use Rattle.checked.specs.declared.item.Item.TheVariants.{Number, Not}
+use Rattle.std.specs.Prelude.{Result, Ok, Err}
 use Rattle.lists.proofs.Fills.{over_long}
 use Rattle.checked.proofs.Standing.{stood}
 use Rattle.checked.proofs.Copying.{counted}
 use Rattle.rows.specs.ReadRow.{Gathered, all, stopped, after, full, onward, gather, answered, gotten, NumbersOver, GotItems}
+use Rattle.rows.proofs.Outcomes.{done_same, refused_same, found_err}
+use Rattle.rows.specs.Row.{Outcome, done, refused_at, at_item}
 use Rattle.rows.specs.declared.answer.Row.{Row}
-use Rattle.rows.specs.declared.answer.Row.TheVariants.{Done, Refused}
+use Rattle.rows.specs.declared.answer.RowRefused.{RowRefused}
 
 -- ---- an answer that has some numbers before it
 abbrev pub since : List ℕ → Gathered → Gathered
@@ -87,50 +89,50 @@ module _ (g : ℕ → Rule) (i : ℕ) where
     pub same_length : length now ≡ length old
     same_length = over_long h.ns old h.holds
 
-    module _ (l : at < length cells) {r : Item} (w : Stood (front g i (drop at cells)) cells at r) where
+    module _ (l : at < length cells) {r : Result Item Refusal} (w : Stood (front g i (drop at cells)) cells at r) where
       some : 0 < length (drop at cells)
       some = omega (arith, length-drop at cells)
 
-      pub storing_more : {n next : ℕ} {last : List ℕ} → r ≡ Number n next → items < room → last ≡ set now items n → Storing room cells old last next (items + 1)
-      storing_more {n} {next} q k put =
+      pub storing_more : {d : Item} {last : List ℕ} → r ≡ Ok d → items < room → last ≡ set now items d.number → Storing room cells old last d.next (items + 1)
+      storing_more {d} q k put =
           let (e, lo, hi) = stood w q in
           let s : room - items ≡ suc (room - (items + 1)) = omega arith in
           record {
-            ns = h.ns ++ (n ∷ []);
-            many = omega (arith, length-append h.ns (n ∷ []), h.many);
+            ns = h.ns ++ (d.number ∷ []);
+            many = omega (arith, length-append h.ns (d.number ∷ []), h.many);
             within = hi;
             fits = omega arith;
-            rest = h.rest ∙ rw (s, gather_more (room - (items + 1)) (drop at cells) some, e) (since_after h.ns n
-                (gather g i (room - (items + 1)) (drop next cells)));
-            holds = put ∙ rw (h.holds, ← h.many) (over_set h.ns old n);
+            rest = h.rest ∙ rw (s, gather_more (room - (items + 1)) (drop at cells) some, e) (since_after h.ns d.number
+                (gather g i (room - (items + 1)) (drop d.next cells)));
+            holds = put ∙ rw (h.holds, ← h.many) (over_set h.ns old d.number);
           }
 
       -- no number is promised: 14, or the item's own refusal
-      stopping : {x : Refusal} → gather g i (room - items) (drop at cells) ≡ stopped x 0 → NumbersOver g i room cells old now (Refused x 0 items)
+      stopping : {x : Refusal} → gather g i (room - items) (drop at cells) ≡ stopped x 0 → NumbersOver g i room cells old now (refused_at x 0 items)
       stopping e =
           let c : length h.ns + 0 ≡ items = omega (arith, h.many) in
           record { is = sym (rw (h.rest, e, c)); long = same_length; holds = λ m u y. let z : ◌≡◌ {A = ℕ} 0 1 = cc in absurd (omega arith) }
 
-      pub storing_full : {n next : ℕ} → r ≡ Number n next → room ≤ items → NumbersOver g i room cells old now (Refused NoRoom 0 items)
+      pub storing_full : {d : Item} → r ≡ Ok d → room ≤ items → NumbersOver g i room cells old now (refused_at NoRoom 0 items)
       storing_full q k = let s : room - items ≡ 0 = omega arith in stopping (rw (s, gather_full (drop at cells) some, (stood w q).0))
 
-      pub storing_stops : {x : Refusal} → r ≡ Not x → NumbersOver g i room cells old now (Refused x 0 items)
-      storing_stops q = stopping (gather_refused (room - items) (drop at cells) some (stood w q))
+      pub storing_stops : {s : Result Item RowRefused} {x : RowRefused} → s ≡ at_item r items → s ≡ Err x → NumbersOver g i room cells old now (Err x)
+      storing_stops a p = let (y, q, m) = found_err r items a p in rw m (stopping (gather_refused (room - items) (drop at cells) some (stood w q)))
 
-    pub storing_done : length cells ≤ at → NumbersOver g i room cells old now (Done items at)
+    pub storing_done : length cells ≤ at → NumbersOver g i room cells old now (done items at)
     storing_done l =
         let s : length cells ≡ at = omega (arith, h.within) in
         let e : gather g i room cells ≡ all h.ns = h.rest ∙ rw (drop_of_length-le cells {i = at} l, gather_none (room - items), append-nil) in
         record { is = rw (e, h.many, s); long = same_length; holds = λ m c x. h.holds ∙ rw e }
 
 -- ---- an answer by what was gathered
-pub answered_all : (used : ℕ) (x : Gathered) {m c : ℕ} → answered used x ≡ Done m c → (ns : List ℕ) × (x ≡ all ns) × (length ns ≡ m) × (used ≡ c)
-answered_all used (all ns) {m} {c} e = let s : length ns ≡ m = cc in let s' : used ≡ c = cc in (ns, refl, s, s')
+pub answered_all : (used : ℕ) (x : Gathered) {m c : ℕ} → answered used x ≡ done m c → (ns : List ℕ) × (x ≡ all ns) × (length ns ≡ m) × (used ≡ c)
+answered_all used (all ns) {m} {c} e = let (s, s') = done_same e in (ns, refl, s, s')
 answered_all used (stopped r k) e = let z : ◌≡◌ {A = ℕ} 0 1 = cc in absurd (omega arith)
 
-pub answered_stopped : (used : ℕ) (x : Gathered) {r : Refusal} {k item : ℕ} → answered used x ≡ Refused r k item → x ≡ stopped r item
+pub answered_stopped : (used : ℕ) (x : Gathered) {r : Refusal} {k item : ℕ} → answered used x ≡ refused_at r k item → x ≡ stopped r item
 answered_stopped used (all ns) e = let z : ◌≡◌ {A = ℕ} 0 1 = cc in absurd (omega arith)
-answered_stopped used (stopped x j) {r} {k} {item} e = cc
+answered_stopped used (stopped x j) {r} {k} {item} e = let (s, s') = refused_same e in cc (s, s')
 
 -- ---- what was gathered, turned round
 pub full_not : (f : Front) {ns : List ℕ} → full f ≡ all ns → ⊥
@@ -159,34 +161,34 @@ gathered_fits g i (suc room) (c ∷ cs) e =
     let (n, ds, ms, u, v, w) = onward_all (front g i (c ∷ cs)) (λ rest. gather g i room rest) (sym (gather_more g i room (c ∷ cs) (omega arith)) ∙ e) in
     omega (arith, ap length w, gathered_fits g i room ds v)
 
-pub gathered_size : (g : ℕ → Rule) (i room : ℕ) (cs : List ℕ) (used : ℕ) {m c : ℕ} → answered used (gather g i room cs) ≡ Done m c
+pub gathered_size : (g : ℕ → Rule) (i room : ℕ) (cs : List ℕ) (used : ℕ) {m c : ℕ} → answered used (gather g i room cs) ≡ done m c
     → (m ≡ length (gotten (gather g i room cs))) × (m ≤ room)
 gathered_size g i room cs used e =
     let (ns, f, s, _) = answered_all used (gather g i room cs) e in
     (sym s ∙ ap (λ (x : Gathered). length (gotten x)) (sym f), omega (arith, gathered_fits g i room cs f))
 
 -- ---- the items: decided over a buffer of the call's own
-pub items_long : {g : ℕ → Rule} {i : ℕ} {cs old last : List ℕ} {r : Row} → GotItems g i cs old last r → length last ≡ length old
-items_long {old = old} {r = Done m c} w = over_long _ old w.holds
-items_long {r = Refused x k item} w = ap length w.holds
+pub items_long : {g : ℕ → Rule} {i : ℕ} {cs old last : List ℕ} {r : Outcome} → GotItems g i cs old last r → length last ≡ length old
+items_long {old = old} {r = Ok d} w = over_long _ old w.holds
+items_long {r = Err x} w = ap length w.holds
 
-module _ {g : ℕ → Rule} {i : ℕ} {cs first kept : List ℕ} {r : Row} (old : List ℕ) (w : NumbersOver g i (length old) cs first kept r) where
-  pub items_not : {x : Refusal} {k item : ℕ} → r ≡ Refused x k item → GotItems g i cs old old (Refused x k item)
+module _ {g : ℕ → Rule} {i : ℕ} {cs first kept : List ℕ} {r : Outcome} (old : List ℕ) (w : NumbersOver g i (length old) cs first kept r) where
+  pub items_not : {x : RowRefused} → r ≡ Err x → GotItems g i cs old old (Err x)
   items_not q = record { is = sym q ∙ w.is; holds = refl }
 
-  module _ {m c : ℕ} (q : r ≡ Done m c) where
-    many : (m ≡ length (gotten (gather g i (length old) cs))) × (m ≤ length old)
+  module _ {d : Row} (q : r ≡ Ok d) where
+    many : (d.items ≡ length (gotten (gather g i (length old) cs))) × (d.items ≤ length old)
     many = gathered_size g i (length old) cs (length cs) (sym w.is ∙ q)
 
-    pub items_few : m ≤ length old
+    pub items_few : d.items ≤ length old
     items_few = many.1
 
-    pub items_kept : m ≤ length kept → {last : List ℕ} → last ≡ over (take m kept) old → GotItems g i cs old last (Done m c)
+    pub items_kept : d.items ≤ length kept → {last : List ℕ} → last ≡ over (take d.items kept) old → GotItems g i cs old last (Ok d)
     items_kept l e = record {
       is = sym q ∙ w.is;
-      holds = e ∙ ap (λ (xs : List ℕ). over xs old) (counted (gotten (gather g i (length old) cs)) first (w.holds m c q) many.0 (omega (arith, w.long)));
+      holds = e ∙ ap (λ (xs : List ℕ). over xs old) (counted (gotten (gather g i (length old) cs)) first (w.holds d.items d.cells q) many.0 (omega (arith, w.long)));
     }
 
     -- what is gathered again is the same
-    pub items_again : {last : List ℕ} {x : Row} → NumbersOver g i (length old) cs old last x → GotItems g i cs old last x
-    items_again {x = x} v = let d : x ≡ Done m c = v.is ∙ sym w.is ∙ q in rw d (record { is = sym d ∙ v.is; holds = v.holds m c d })
+    pub items_again : {last : List ℕ} {x : Outcome} → NumbersOver g i (length old) cs old last x → GotItems g i cs old last x
+    items_again {x = x} v = let s : x ≡ Ok d = v.is ∙ sym w.is ∙ q in rw s (record { is = sym s ∙ v.is; holds = v.holds d.items d.cells s })

@@ -1,4 +1,5 @@
 -- What the proofs of the row calls and of the reader cite.
+pub mod Outcomes
 pub mod Values
 pub mod Calls
 pub mod WrittenInTurn

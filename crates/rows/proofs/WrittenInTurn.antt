@@ -15,31 +15,31 @@ use Rattle.grammar.specs.declared.refusal.Refusal.{Refusal}
 use Rattle.grammar.specs.Rule.{Rule}
 use Rattle.lists.specs.Filled.{over}
 use Rattle.lists.proofs.Fills.{length_over, part_old, then}
-use Rattle.checked.specs.Fits.{case_cells, fitted, FitOver}
-use Rattle.checked.specs.declared.fits.Fit.{Fit}
-use Rattle.checked.specs.declared.fits.Fit.TheVariants.{Cells, Not}
+use Rattle.checked.specs.Fits.{Fit, case_cells, fitted, FitOver}
+use Rattle.std.specs.Prelude.{Result, Ok, Err}
 use Rattle.checked.proofs.Fitted.{fitted_cells}
 use Rattle.rows.specs.WriteRow.{later, onward, in_turn, row_of, RowOver}
-use Rattle.rows.specs.declared.answer.Row.{Row}
-use Rattle.rows.specs.declared.answer.Row.TheVariants.{Done, Refused}
+use Rattle.rows.proofs.Outcomes.{done_same, found_err}
+use Rattle.rows.specs.Row.{Outcome, done, refused_at, at_item}
+use Rattle.rows.specs.declared.answer.RowRefused.{RowRefused}
 
-later_later : (a c b e : ℕ) (r : Row) → later a c (later b e r) ≡ later (a + b) (c + e) r
-later_later a c b e (Done m u) = simp add_assoc
-later_later a c b e (Refused r k item) = simp add_assoc
+later_later : (a c b e : ℕ) (r : Outcome) → later a c (later b e r) ≡ later (a + b) (c + e) r
+later_later a c b e (Ok d) = simp add_assoc
+later_later a c b e (Err x) = simp add_assoc
 
-later_none : (r : Row) → later 0 0 r ≡ r
-later_none (Done m u) = simp zero-add
-later_none (Refused r k item) = simp zero-add
+later_none : (r : Outcome) → later 0 0 r ≡ r
+later_none (Ok d) = simp zero-add
+later_none (Err x) = simp zero-add
 
 -- an answer that is done, turned round
-later_done : (k : ℕ) (x : Row) {m c : ℕ} → later 1 k x ≡ Done m c → (items : ℕ) × (used : ℕ) × (x ≡ Done items used) × (m ≡ 1 + items) × (c ≡ k + used)
-later_done k (Done items used) {m} {c} e = let s : 1 + items ≡ m = cc in let s' : k + used ≡ c = cc in (items, used, refl, sym s, sym s')
-later_done k (Refused r n item) e = let z : ◌≡◌ {A = ℕ} 0 1 = cc in absurd (omega arith)
+later_done : (k : ℕ) (x : Outcome) {m c : ℕ} → later 1 k x ≡ done m c → (items : ℕ) × (used : ℕ) × (x ≡ done items used) × (m ≡ 1 + items) × (c ≡ k + used)
+later_done k (Ok d) {m} {c} e = let (s, s') = done_same e in (d.items, d.cells, refl, sym s, sym s')
+later_done k (Err x) e = let z : ◌≡◌ {A = ℕ} 0 1 = cc in absurd (omega arith)
 
-pub onward_done : (f : Fit) (rest : ℕ → Row) {m c : ℕ} → onward f rest ≡ Done m c
-    → (k : ℕ) × (items : ℕ) × (used : ℕ) × (f ≡ Cells k) × (rest k ≡ Done items used) × (m ≡ 1 + items) × (c ≡ k + used)
-onward_done (Not r) rest e = let z : ◌≡◌ {A = ℕ} 0 1 = cc in absurd (omega arith)
-onward_done (Cells k) rest e = let (items, used, u, s, s') = later_done k (rest k) e in (k, items, used, refl, u, s, s')
+pub onward_done : (f : Fit) (rest : ℕ → Outcome) {m c : ℕ} → onward f rest ≡ done m c
+    → (k : ℕ) × (items : ℕ) × (used : ℕ) × (f ≡ Ok k) × (rest k ≡ done items used) × (m ≡ 1 + items) × (c ≡ k + used)
+onward_done (Err r) rest e = let z : ◌≡◌ {A = ℕ} 0 1 = cc in absurd (omega arith)
+onward_done (Ok k) rest e = let (items, used, u, s, s') = later_done k (rest k) e in (k, items, used, refl, u, s, s')
 
 module _ (g : ℕ → Rule) (i : ℕ) where
   pub record Tallying (room : ℕ) (ns : List ℕ) (j used : ℕ) : Type 0 where
@@ -54,26 +54,29 @@ module _ (g : ℕ → Rule) (i : ℕ) where
 
   module _ {room : ℕ} {ns : List ℕ} {j used : ℕ} (h : Tallying room ns j used) where
     module _ (l : j < length ns) {f : Fit} (e : f ≡ fitted g i (get_or ns j 0) (room - used)) where
-      at_item : in_turn g i room ns ≡ later j used (onward f (λ c. in_turn g i (room - used - c) (drop (suc j) ns)))
+      here : in_turn g i room ns ≡ later j used (onward f (λ c. in_turn g i (room - used - c) (drop (suc j) ns)))
       unfolding in_turn
-      at_item = h.rest ∙ rw (drop-cons ns j 0 l, e)
+      here = h.rest ∙ rw (drop-cons ns j 0 l, e)
 
-      pub tallying_fits : {k : ℕ} → f ≡ Cells k → k ≤ room - used
+      pub tallying_fits : {k : ℕ} → f ≡ Ok k → k ≤ room - used
       tallying_fits {k} q = let (a, s, c, w) = fitted_cells g i (get_or ns j 0) (room - used) k (sym e ∙ q) in omega arith
 
-      pub tallying_more : {k : ℕ} → f ≡ Cells k → Tallying room ns (j + 1) (used + k)
+      pub tallying_more : {k : ℕ} → f ≡ Ok k → Tallying room ns (j + 1) (used + k)
       tallying_more {k} q =
           let s : room - used - k ≡ room - (used + k) = omega arith in
           record {
             le = omega arith;
             fits = omega (arith, tallying_fits q, h.fits);
-            rest = at_item ∙ rw (q, s) (later_later j used 1 k (in_turn g i (room - (used + k)) (drop (suc j) ns)) ∙ rw add-one);
+            rest = here ∙ rw (q, s) (later_later j used 1 k (in_turn g i (room - (used + k)) (drop (suc j) ns)) ∙ rw add-one);
           }
 
-      pub tallying_stops : {r : Refusal} → f ≡ Not r → Refused r 0 j ≡ in_turn g i room ns
-      tallying_stops q = let s : j + 0 ≡ j = omega arith in sym (at_item ∙ rw (q, s))
+      stopped : {r : Refusal} → f ≡ Err r → refused_at r 0 j ≡ in_turn g i room ns
+      stopped q = let s : j + 0 ≡ j = omega arith in sym (here ∙ rw (q, s))
 
-    pub tallying_done : length ns ≤ j → Done j used ≡ in_turn g i room ns
+      pub tallying_stops : {s : Result ℕ RowRefused} {x : RowRefused} → s ≡ at_item f j → s ≡ Err x → Err x ≡ in_turn g i room ns
+      tallying_stops a q = let (r, k, m) = found_err f j a q in rw m (stopped k)
+
+    pub tallying_done : length ns ≤ j → done j used ≡ in_turn g i room ns
     unfolding in_turn
     tallying_done l =
         let s : j + 0 ≡ j = omega arith in
@@ -107,7 +110,7 @@ module _ (g : ℕ → Rule) (i : ℕ) where
     pub laying_within : used ≤ length now
     laying_within = omega (arith, h.tally.fits, laying_long)
 
-    pub laying_done : length ns ≤ j → RowOver g i ns old now (Done j used)
+    pub laying_done : length ns ≤ j → RowOver g i ns old now (done j used)
     laying_done l = record { is = tallying_done h.tally l; long = laying_long; holds = λ m c x. h.holds ∙ rw (take_all j ns l) }
 
     module _ {part last : List ℕ} (l : j < length ns) (p : part ≡ take (length now - used) (drop used now)) {f : Fit}
@@ -118,13 +121,13 @@ module _ (g : ℕ → Rule) (i : ℕ) where
       fit_is : f ≡ fitted g i (get_or ns j 0) (length old - used)
       fit_is = let s : length part ≡ length old - used = omega (arith, laying_long, part_long) in e.is ∙ rw s
 
-      pub laying_fits : {k : ℕ} → f ≡ Cells k → used + k ≤ length now
+      pub laying_fits : {k : ℕ} → f ≡ Ok k → used + k ≤ length now
       laying_fits q = omega (arith, tallying_fits h.tally l fit_is q, h.tally.fits, laying_long)
 
       pub laying_left : length (take used now ++ (last ++ drop (length now - used) (drop used now))) ≡ length old
       laying_left = simp (length-append, length-take, length-drop) (omega (arith, laying_long, laying_within, part_long, e.long))
 
-      pub laying_more : {k : ℕ} → f ≡ Cells k → Laying ns old (take used now ++ (last ++ drop (length now - used) (drop used now))) (j + 1) (used + k)
+      pub laying_more : {k : ℕ} → f ≡ Ok k → Laying ns old (take used now ++ (last ++ drop (length now - used) (drop used now))) (j + 1) (used + k)
       laying_more {k} q =
           let (_, s, c, w) = fitted_cells g i (get_or ns j 0) (length part) k (sym e.is ∙ q) in
           let n : used ≡ min (length (row_of g i (take j ns))) (length old) = omega (arith, h.many, h.tally.fits) in
@@ -134,14 +137,15 @@ module _ (g : ℕ → Rule) (i : ℕ) where
             holds = rw (row_more ns j l) (then (record { count = n; holds = h.holds }) (record { count = refl; holds = e.holds k q }) p).holds;
           }
 
-      pub laying_stops : {r : Refusal} → f ≡ Not r → RowOver g i ns old (take used now ++ (last ++ drop (length now - used) (drop used now))) (Refused r 0 j)
-      laying_stops q =
-          record { is = tallying_stops h.tally l fit_is q; long = laying_left; holds = λ m c x. let z : ◌≡◌ {A = ℕ} 0 1 = cc in absurd (omega arith) }
+      pub laying_stops : {s : Result ℕ RowRefused} {x : RowRefused} → s ≡ at_item f j → s ≡ Err x
+          → RowOver g i ns old (take used now ++ (last ++ drop (length now - used) (drop used now))) (Err x)
+      laying_stops a q =
+          record { is = tallying_stops h.tally l fit_is a q; long = laying_left; holds = λ m c x. let z : ◌≡◌ {A = ℕ} 0 1 = cc in absurd (omega arith) }
 
   -- ---- a row that is done
-  pub done_row : (room : ℕ) (ns : List ℕ) {m c : ℕ} → in_turn g i room ns ≡ Done m c → (m ≡ length ns) × (c ≡ length (row_of g i ns)) × (c ≤ room)
+  pub done_row : (room : ℕ) (ns : List ℕ) {m c : ℕ} → in_turn g i room ns ≡ done m c → (m ≡ length ns) × (c ≡ length (row_of g i ns)) × (c ≤ room)
   unfolding in_turn row_of
-  done_row room [] {m} {c} e = let s : ◌≡◌ {A = ℕ} 0 m = cc in let s' : ◌≡◌ {A = ℕ} 0 c = cc in (sym s, sym s', omega arith)
+  done_row room [] {m} {c} e = let (s, s') = done_same e in (sym s, sym s', omega arith)
   done_row room (n ∷ ns) e =
       let (k, items, used, f, r, s, s') = onward_done (fitted g i n room) _ e in
       let (a, b, c, w) = fitted_cells g i n room k f in

@@ -8,8 +8,7 @@ use Rattle.std.specs.Prelude.{List, [], ◌∷◌, ◌++◌, ℕ, zero, suc, ◌
 use Rattle.grammar.specs.Rule.{Rule}
 use Rattle.walk.specs.Room.{Case}
 use Rattle.checked.specs.Fits.{Asked}
-use Rattle.rows.specs.declared.reader.Next.{Next}
-use Rattle.rows.specs.declared.reader.Next.TheVariants.{Item}
+use Rattle.rows.specs.Reader.{Reply, hands}
 use Rattle.rows.specs.declared.reader.Stride.{Stride}
 
 pub data Cut (g : ℕ → Rule) (i : ℕ) : List ℕ → List (List ℕ) → Type 0 where
@@ -21,10 +20,10 @@ joined [] = []
 joined (cs ∷ css) = cs ++ joined css
 
 -- what comes last is the row's end or a refusal, and the reader stays
-unfoldable pub hand_out : ℕ → List ℕ → List (List ℕ) → Next → List Stride
+unfoldable pub hand_out : ℕ → List ℕ → List (List ℕ) → Reply → List Stride
 hand_out at [] css last = record { answer = last; at = at } ∷ []
 hand_out at (n ∷ ns) [] last = record { answer = last; at = at } ∷ []
-hand_out at (n ∷ ns) (cs ∷ css) last = record { answer = Item n (length cs); at = at + length cs } ∷ hand_out (at + length cs) ns css last
+hand_out at (n ∷ ns) (cs ∷ css) last = record { answer = hands n (length cs); at = at + length cs } ∷ hand_out (at + length cs) ns css last
 
 unfoldable pub asks : (ℕ → Stride) → ℕ → ℕ → List Stride
 asks next zero at = []

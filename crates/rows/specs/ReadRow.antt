@@ -14,9 +14,7 @@ use Rattle.grammar.specs.Sizes.{rules_of}
 use Rattle.lists.specs.Filled.{over}
 use Rattle.checked.specs.Opening.{judged, opening}
 use Rattle.checked.specs.Item.{Front, number, refused, front}
-use Rattle.rows.specs.Row.{at_first, leaves, RowAnswer, row_answer}
-use Rattle.rows.specs.declared.answer.Row.{Row}
-use Rattle.rows.specs.declared.answer.Row.TheVariants.{Done, Refused}
+use Rattle.rows.specs.Row.{Outcome, done, refused_at, at_first, leaves, RowAnswer, row_answer}
 
 pub data Gathered : Type 0 where
   all : List ℕ → Gathered
@@ -43,31 +41,31 @@ gather g i zero (c ∷ cs) = full (front g i (c ∷ cs))
 gather g i (suc room) (c ∷ cs) = onward (front g i (c ∷ cs)) (λ rest. gather g i room rest)
 
 -- a row of so many cells that is read is read to its end
-abbrev pub answered : ℕ → Gathered → Row
-answered used (all ns) = Done (length ns) used
-answered used (stopped r item) = Refused r 0 item
+abbrev pub answered : ℕ → Gathered → Outcome
+answered used (all ns) = done (length ns) used
+answered used (stopped r item) = refused_at r 0 item
 
 abbrev pub gotten : Gathered → List ℕ
 gotten (all ns) = ns
 gotten (stopped r item) = []
 
 -- the answer for the cells, and what becomes of a buffer: the numbers of a row that is done are over its front, as far as that goes
-pub record NumbersOver (g : ℕ → Rule) (i room : ℕ) (cs old last : List ℕ) (r : Row) : Type 0 where
+pub record NumbersOver (g : ℕ → Rule) (i room : ℕ) (cs old last : List ℕ) (r : Outcome) : Type 0 where
   pub is : r ≡ answered (length cs) (gather g i room cs)
   pub long : length last ≡ length old
-  pub holds : (m c : ℕ) → r ≡ Done m c → last ≡ over (gotten (gather g i room cs)) old
+  pub holds : (m c : ℕ) → r ≡ done m c → last ≡ over (gotten (gather g i room cs)) old
 
-unfoldable pub reads_row : List ℕ → List ℕ → ℕ → ℕ → List ℕ → Row
+unfoldable pub reads_row : List ℕ → List ℕ → ℕ → ℕ → List ℕ → Outcome
 reads_row t p i room cs = judged at_first (opening t p i) (answered (length cs) (gather (rules_of t p) i room cs))
 
 unfoldable pub read_row_says : List ℕ → List ℕ → ℕ → ℕ → List ℕ → RowAnswer
 read_row_says t p i room cs = row_answer (reads_row t p i room cs)
 
-pub record GotRow (t p : List ℕ) (i : ℕ) (cs old last : List ℕ) (r : Row) : Type 0 where
+pub record GotRow (t p : List ℕ) (i : ℕ) (cs old last : List ℕ) (r : Outcome) : Type 0 where
   pub says : row_answer r ≡ read_row_says t p i (length old) cs
   pub holds : last ≡ leaves r (gotten (gather (rules_of t p) i (length old) cs)) old
 
 -- of a grammar and a node of it
-pub record GotItems (g : ℕ → Rule) (i : ℕ) (cs old last : List ℕ) (r : Row) : Type 0 where
+pub record GotItems (g : ℕ → Rule) (i : ℕ) (cs old last : List ℕ) (r : Outcome) : Type 0 where
   pub is : r ≡ answered (length cs) (gather g i (length old) cs)
   pub holds : last ≡ leaves r (gotten (gather g i (length old) cs)) old

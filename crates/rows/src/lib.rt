@@ -7,7 +7,7 @@ mod reader;
 mod reading;
 mod writing;
 
-pub use answer::Row;
+pub use answer::{Row, RowRefused};
 pub use reader::{Next, Reader, Stride, read_at};
 pub use reading::read_row;
 pub use writing::write_row;

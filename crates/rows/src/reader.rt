@@ -1,30 +1,54 @@
 // "A reader hands out one case at a time from the front of a lent row": a struct of the lent row and a place,
 // thin over the covered slice-and-place function.
-ghost use Rattle.std.specs.Prelude.{◌≡◌};
+ghost use Rattle.std.specs.Prelude.{◌≡◌, ◌+◌, ◌≤◌, length};
 ghost use Rattle.checked.specs.Prepared.{Blank};
-ghost use Rattle.rows.specs.Reader.{stride_of, Strode, Moved};
+ghost use Rattle.rows.specs.declared.reader.Next.{Next};
+ghost use Rattle.rows.specs.Reader.{next_of, stride_of, Strode, Moved};
 
-use checked::item::{Item, item_at};
+use checked::item::item_at;
 use checked::opened::begin;
 use checked::prepared::{PLAN, SMALL, SMALL_PLAN};
-use grammar::refusal::{Refusal, Verdict};
+use grammar::refusal::Refused;
 
 // What a reader hands out: a number and the count of its cells.
-#[derive(Drop)]
-pub enum Next {
-    Item(u64, usize),
-    End,
-    Refused(Refusal, u64),
+#[derive(Clone, Copy, Debug, PartialEq, Eq)]
+pub struct Next {
+    pub number: u64,
+    pub cells: usize,
 }
 
-// An answer, and the place after it.
-#[derive(Drop)]
+// An answer, None at the row's end, and the place after it.
+#[derive(Clone, Copy, Debug, PartialEq, Eq)]
 pub struct Stride {
-    pub answer: Next,
+    pub answer: Result<Option<Next>, Refused>,
     pub at: usize,
 }
 
-// The call over a lent plan: at the row's end it stays there, else it moves past the case at the place.
+// The call over a lent plan: none at the row's end, else the case at the place.
+fn next_with(
+    table: &[u64],
+    pool: &[u64],
+    plan: &mut [u64],
+    start: usize,
+    row: &[u64],
+    at: usize,
+) -> Result<Option<Next>, Refused>
+    requires { Blank table.now plan.old }
+    ensures is { result ≡ next_of table.now pool.now start row.now at }
+    ensures within { (n : Next) → result ≡ Ok (Some n) → at + n.cells ≤ length row.now }
+{
+    begin(table, pool, plan, start)?;
+    if row.len() <= at {
+        return Ok(None);
+    }
+    let item = item_at(pool, plan, start, row, at)?;
+    Ok(Some(Next {
+        number: item.number,
+        cells: item.next - at,
+    }))
+}
+
+// At the row's end and after a refusal it stays, else it moves past the case at the place.
 fn stride_with(
     table: &[u64],
     pool: &[u64],
@@ -36,30 +60,12 @@ fn stride_with(
     requires { Blank table.now plan.old }
     ensures { result ≡ stride_of table.now pool.now start row.now at }
 {
-    match begin(table, pool, plan, start) {
-        Verdict::Refused(r, k) => Stride {
-            answer: Next::Refused(r, k),
-            at,
-        },
-        Verdict::Accepted => {
-            if row.len() <= at {
-                return Stride {
-                    answer: Next::End,
-                    at,
-                };
-            }
-            match item_at(pool, plan, start, row, at) {
-                Item::Number(n, next) => Stride {
-                    answer: Next::Item(n, next - at),
-                    at: next,
-                },
-                Item::Not(r) => Stride {
-                    answer: Next::Refused(r, 0),
-                    at,
-                },
-            }
-        }
-    }
+    let answer = next_with(table, pool, plan, start, row, at);
+    let to = match answer {
+        Ok(Some(next)) => at + next.cells,
+        Ok(None) | Err(_) => at,
+    };
+    Stride { answer, at: to }
 }
 
 // The covered function on a slice and a place: the answer and the next place together.
@@ -88,7 +94,12 @@ impl<'a> Reader<'a> {
     }
 
     // The answer at the reader's place, and the reader moves past it.
-    pub fn next(&mut self, table: &[u64], pool: &[u64], start: usize) -> Next
+    pub fn next(
+        &mut self,
+        table: &[u64],
+        pool: &[u64],
+        start: usize,
+    ) -> Result<Option<Next>, Refused>
         ensures { Moved table.now pool.now start self.old result self.new }
     {
         let at = self.at;

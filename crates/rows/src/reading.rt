@@ -5,12 +5,12 @@ ghost use Rattle.checked.specs.Prepared.{Blank};
 ghost use Rattle.walk.specs.Plan.{Reading};
 ghost use Rattle.rows.specs.ReadRow.{NumbersOver, GotItems, GotRow};
 
-use super::answer::Row;
+use super::answer::{Row, RowRefused, at_item};
 use checked::copy::copy;
-use checked::item::{Item, item_at};
+use checked::item::item_at;
 use checked::opened::begin;
 use checked::prepared::{PLAN, SMALL, SMALL_PLAN};
-use grammar::refusal::{Refusal, Verdict};
+use grammar::refusal::Refusal;
 
 // The room for numbers of a call's own. A row has no more items than cells: a row of up to 64 cells takes
 // the small one, and does not pay for the large one.
@@ -36,28 +36,22 @@ fn gather_row<'a>(
     cells: &[u64],
     room: usize,
     out: &mut [u64],
-) -> Row
+) -> Result<Row, RowRefused>
     requires { Reading plan.now pool.now start }
     ensures { NumbersOver (rule_in plan.now pool.now) start room cells.now out.old out.new result }
 {
     let mut at: usize = 0;
     let mut items: usize = 0;
     while at < cells.len() {
-        match item_at(pool, plan, start, cells, at) {
-            Item::Number(n, next) => {
-                if room <= items {
-                    return Row::Refused(Refusal::NoRoom, 0, items);
-                }
-                keep(n, items, out);
-                at = next;
-                items += 1;
-            }
-            Item::Not(r) => {
-                return Row::Refused(r, 0, items);
-            }
+        let item = at_item(item_at(pool, plan, start, cells, at), items)?;
+        if room <= items {
+            return at_item(Err(Refusal::NoRoom), items);
         }
+        keep(item.number, items, out);
+        at = item.next;
+        items += 1;
     }
-    Row::Done(items, at)
+    Ok(Row { items, cells: at })
 }
 
 // The call on an opened table decides over a buffer of its own, and stores only once the whole row is
@@ -69,20 +63,16 @@ fn read_items<'a>(
     cells: &[u64],
     scratch: &mut [u64],
     numbers: &mut [u64],
-) -> Row
+) -> Result<Row, RowRefused>
     requires { Reading plan.now pool.now start }
     ensures { GotItems (rule_in plan.now pool.now) start cells.now numbers.old numbers.new result }
 {
-    match gather_row(pool, plan, start, cells, numbers.len(), scratch) {
-        Row::Done(items, used) => {
-            if items <= scratch.len() {
-                copy(scratch, items, numbers);
-                return Row::Done(items, used);
-            }
-            gather_row(pool, plan, start, cells, numbers.len(), numbers)
-        }
-        Row::Refused(r, k, item) => Row::Refused(r, k, item),
+    let row = gather_row(pool, plan, start, cells, numbers.len(), scratch)?;
+    if row.items <= scratch.len() {
+        copy(scratch, row.items, numbers);
+        return Ok(row);
     }
+    gather_row(pool, plan, start, cells, numbers.len(), numbers)
 }
 
 // The call over a lent plan.
@@ -93,21 +83,17 @@ fn read_row_with(
     start: usize,
     cells: &[u64],
     numbers: &mut [u64],
-) -> Row
+) -> Result<Row, RowRefused>
     requires { Blank table.now plan.old }
     ensures { GotRow table.now pool.now start cells.now numbers.old numbers.new result }
 {
-    match begin(table, pool, plan, start) {
-        Verdict::Refused(r, k) => Row::Refused(r, k, 0),
-        Verdict::Accepted => {
-            if cells.len() <= FEW {
-                let mut scratch = [0u64; FEW];
-                return read_items(pool, plan, start, cells, &mut scratch, numbers);
-            }
-            let mut scratch = [0u64; MANY];
-            read_items(pool, plan, start, cells, &mut scratch, numbers)
-        }
+    begin(table, pool, plan, start)?;
+    if cells.len() <= FEW {
+        let mut scratch = [0u64; FEW];
+        return read_items(pool, plan, start, cells, &mut scratch, numbers);
     }
+    let mut scratch = [0u64; MANY];
+    read_items(pool, plan, start, cells, &mut scratch, numbers)
 }
 
 // The numbers of a row of cases, stored into a lent buffer.
@@ -117,7 +103,7 @@ pub fn read_row(
     start: usize,
     cells: &[u64],
     numbers: &mut [u64],
-) -> Row
+) -> Result<Row, RowRefused>
     ensures { GotRow table.now pool.now start cells.now numbers.old numbers.new result }
 {
     if table.len() <= SMALL {

@@ -5,12 +5,11 @@ ghost use Rattle.checked.specs.Prepared.{Blank};
 ghost use Rattle.walk.specs.Plan.{Reading};
 ghost use Rattle.rows.specs.WriteRow.{in_turn, RowOver, WroteRow};
 
-use super::answer::Row;
+use super::answer::{Row, RowRefused, at_item};
 use checked::decided::decided;
-use checked::fits::{Fit, fits};
+use checked::fits::fits;
 use checked::opened::begin;
 use checked::prepared::{PLAN, SMALL, SMALL_PLAN};
-use grammar::refusal::Verdict;
 
 // "items in order; the first that is refused stops the call": the first pass decides, and is lent no cell
 // that it could write.
@@ -20,24 +19,21 @@ fn decide_row<'a>(
     start: usize,
     numbers: &[u64],
     room: usize,
-) -> Row
+) -> Result<Row, RowRefused>
     requires { Reading plan.now pool.now start }
     ensures { result ≡ in_turn (rule_in plan.now pool.now) start room numbers.now }
 {
     let mut item: usize = 0;
     let mut used: usize = 0;
     while item < numbers.len() {
-        match decided(pool, plan, start, numbers[item], room - used) {
-            Fit::Cells(k) => {
-                used += k;
-                item += 1;
-            }
-            Fit::Not(r) => {
-                return Row::Refused(r, 0, item);
-            }
-        }
+        let fit = decided(pool, plan, start, numbers[item], room - used);
+        used += at_item(fit, item)?;
+        item += 1;
     }
-    Row::Done(item, used)
+    Ok(Row {
+        items: item,
+        cells: used,
+    })
 }
 
 // The second pass writes each case into what the ones before it leave of the buffer.
@@ -47,24 +43,18 @@ fn lay_row<'a>(
     start: usize,
     numbers: &[u64],
     cells: &mut [u64],
-) -> Row
+) -> Result<Row, RowRefused>
     requires { Reading plan.now pool.now start }
     ensures { RowOver (rule_in plan.now pool.now) start numbers.now cells.old cells.new result }
 {
     let mut items: usize = 0;
     let mut used: usize = 0;
     while items < numbers.len() {
-        match fits(pool, plan, start, numbers[items], &mut cells[used..]) {
-            Fit::Cells(k) => {
-                used += k;
-                items += 1;
-            }
-            Fit::Not(r) => {
-                return Row::Refused(r, 0, items);
-            }
-        }
+        let fit = fits(pool, plan, start, numbers[items], &mut cells[used..]);
+        used += at_item(fit, items)?;
+        items += 1;
     }
-    Row::Done(items, used)
+    Ok(Row { items, cells: used })
 }
 
 // The call over a lent plan. No cell is written before the whole row is known to fit.
@@ -75,17 +65,13 @@ fn write_row_with(
     start: usize,
     numbers: &[u64],
     cells: &mut [u64],
-) -> Row
+) -> Result<Row, RowRefused>
     requires { Blank table.now plan.old }
     ensures { WroteRow table.now pool.now start numbers.now cells.old cells.new result }
 {
-    match begin(table, pool, plan, start) {
-        Verdict::Refused(r, k) => Row::Refused(r, k, 0),
-        Verdict::Accepted => match decide_row(pool, plan, start, numbers, cells.len()) {
-            Row::Done(_, _) => lay_row(pool, plan, start, numbers, cells),
-            Row::Refused(r, k, item) => Row::Refused(r, k, item),
-        },
-    }
+    begin(table, pool, plan, start)?;
+    decide_row(pool, plan, start, numbers, cells.len())?;
+    lay_row(pool, plan, start, numbers, cells)
 }
 
 // The cases of numbers, one after another, written into a lent buffer.
@@ -95,7 +81,7 @@ pub fn write_row(
     start: usize,
     numbers: &[u64],
     cells: &mut [u64],
-) -> Row
+) -> Result<Row, RowRefused>
     ensures { WroteRow table.now pool.now start numbers.now cells.old cells.new result }
 {
     if table.len() <= SMALL {

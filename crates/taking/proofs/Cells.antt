@@ -65,7 +65,7 @@ module _ {row : List ℕ} {k : ℕ} where
   taken_large {l} {m} h i = record { took = λ cells stop e. large refl m h refl; inside = λ q. i }
 
   pub taken_number : (m : ℕ) {l r : ℕ} → l ≤ limit → k ≤ length row → r ≡ word_of (capped m) → Taken l (read m) row k k r
-  unfolding word_of capped
+  unfolding capped
   taken_number m {l} hi i e =
       subst (Taken l (read m) row k k) (sym e)
       (pick_by (λ j. Taken l (read m) row k k (word_of j)) (ltb m limit)

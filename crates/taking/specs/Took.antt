@@ -11,6 +11,7 @@
 use Rattle.std.specs.Prelude.{◌≡◌, Bool, List, ℕ, ◌+◌, ◌*◌, ◌-◌, ◌^◌, ◌≤◌, ◌<◌, eqb, ltb, leb, length, get_or, take, drop}
 use Rattle.numbers.specs.Pick.{pick}
 use Rattle.numbers.specs.Joined.{limit}
+use Rattle.grammar.specs.declared.entry.Entry.{Entry}
 use Rattle.grammar.specs.declared.refusal.Refusal.{Refusal}
 use Rattle.grammar.specs.declared.refusal.Refusal.TheVariants.{TooDeep, NoRoom, NotACase}
 use Rattle.grammar.specs.Rule.{Tree}
@@ -35,7 +36,7 @@ pub record Taken (least : ℕ) (reads : ℕ → List ℕ → Read) (row : List �
   pub took : (cells : List ℕ) (stop : ℕ) → row ≡ take stop cells → Took least (reads (stop - at) (drop at cells)) cells stop next r
   pub inside : r ≤ 2 ^ 63 → next ≤ length row
 
-abbrev pub TakenBy : Kind → (plan p : List ℕ) → (a b left off : ℕ) → List ℕ → ℕ → ℕ → ℕ → Type 0
+abbrev pub TakenBy : Kind → (plan : List Entry) (p : List ℕ) → (a b left off : ℕ) → List ℕ → ℕ → ℕ → ℕ → Type 0
 TakenBy k plan p a b left off row at next r =
     Taken (2 ^ 62 + (200 - left)) (follow (run (rule_in plan p) left) off (k.rule a b p (size_in plan)).tree) row at next r
 

@@ -8,8 +8,8 @@ ghost use Rattle.taking.specs.Took.{Celled, Passed, TakenOwn};
 ghost use Rattle.walk.specs.Lent.{pool_of};
 
 use grammar::kinds::{Place, below, pool};
-use numbers::joined::{cap, word};
-use walk::lent::{LENT, POOL};
+use numbers::joined::{BIG, cap};
+use walk::lent::Lent;
 
 pub const DEEP: u64 = 9223372036854775809;
 
@@ -48,7 +48,7 @@ pub fn any(row: &&[u64], off: u64, at: &mut usize) -> u64
     match cell_at(*row, k, off) {
         Cell::Of(c) => {
             *at = k + 1;
-            word(cap(c))
+            cap(c).unwrap_or(BIG)
         }
         Cell::Stops(w) => w,
     }
@@ -80,21 +80,14 @@ pub fn counted(a: u64, row: &&[u64], off: u64, at: &mut usize) -> u64
 }
 
 // pool: the place of a word
-pub fn listed(
-    lent: &[&[u64]; LENT],
-    a: usize,
-    b: usize,
-    row: &&[u64],
-    off: u64,
-    at: &mut usize,
-) -> u64
+pub fn listed(lent: &Lent, a: usize, b: usize, row: &&[u64], off: u64, at: &mut usize) -> u64
     requires b_bound { (b ≤ 4096) × (a + b ≤ length (pool_of lent.now)) × (length (pool_of lent.now) ≤ 4096) }
     requires at_in_bounds { (at.old ≤ length row.now.now) × (length row.now.now ≤ 65536) }
     ensures { TakenOwn (pool_rule (front b (drop a (pool_of lent.now))) b).tree off
         row.now.now at.old at.new result }
 {
     match cell_at(*row, *at, off) {
-        Cell::Of(c) => passed(pool::place_of(lent[POOL], a, b, c), at),
+        Cell::Of(c) => passed(pool::place_of(lent.pool, a, b, c), at),
         Cell::Stops(w) => w,
     }
 }

@@ -11,10 +11,11 @@ ghost use Rattle.taking.specs.Took.{Taken, TakenBy, Roomy};
 ghost use Rattle.walk.specs.Lent.{pool_of, plan_of};
 
 use super::own::{DEEP, UNFIT, any, counted, listed};
-use grammar::kinds;
+use grammar::entry::Entry;
+use grammar::kind::Kind;
 use grammar::kinds::{cons, dep, except, or};
 use numbers::joined::BIG;
-use walk::lent::{LENT, PLAN, POOL};
+use walk::lent::Lent;
 
 // An or's tags, 0 and 1.
 const TAGS: u64 = 2;
@@ -22,7 +23,7 @@ const TAGS: u64 = 2;
 // or: a tag, and the part that it leads to. 15: "a tag above 1"
 #[cycle(both_chosen_tagged_take_without)]
 fn tagged(
-    lent: &[&[u64]; LENT],
+    lent: &Lent,
     a: usize,
     b: usize,
     row: &&[u64],
@@ -44,20 +45,12 @@ fn tagged(
     if BIG <= m {
         return m;
     }
-    or::join(lent[PLAN], tag, s.other, m)
+    or::join(lent.plan, tag, s.other, m)
 }
 
 // cons: both parts
 #[cycle(both_chosen_tagged_take_without)]
-fn both(
-    lent: &[&[u64]; LENT],
-    a: usize,
-    b: usize,
-    row: &&[u64],
-    left: usize,
-    off: u64,
-    at: &mut usize,
-) -> u64
+fn both(lent: &Lent, a: usize, b: usize, row: &&[u64], left: usize, off: u64, at: &mut usize) -> u64
     requires reading { Reading (plan_of lent.now) (pool_of lent.now) a × Reading (plan_of lent.now) (pool_of lent.now) b }
     requires roomy { Roomy left off at.old row.now.now }
     ensures { TakenBy cons_kind (plan_of lent.now) (pool_of lent.now) a b left off
@@ -74,13 +67,13 @@ fn both(
     if BIG <= x {
         return BIG;
     }
-    cons::join(lent[PLAN], a, b, x, y)
+    cons::join(lent.plan, a, b, x, y)
 }
 
 // dep: the first part, and the second that its number chooses. That number is below 256, so never BIG.
 #[cycle(both_chosen_tagged_take_without)]
 fn chosen(
-    lent: &[&[u64]; LENT],
+    lent: &Lent,
     a: usize,
     b: usize,
     row: &&[u64],
@@ -97,19 +90,19 @@ fn chosen(
     if BIG <= x {
         return x;
     }
-    let pool = lent[POOL];
+    let pool = lent.pool;
     let c = pool[b + x as usize] as usize;
     let y = take(lent, c, row, left, 0, at);
     if BIG <= y {
         return y;
     }
-    dep::join(pool, lent[PLAN], a, b, x, y)
+    dep::join(pool, lent.plan, a, b, x, y)
 }
 
 // except: a part at another number than b. 15: "the case an except removed (met after its last cell)"
 #[cycle(both_chosen_tagged_take_without)]
 fn without(
-    lent: &[&[u64]; LENT],
+    lent: &Lent,
     a: usize,
     b: u64,
     row: &&[u64],
@@ -135,14 +128,7 @@ fn without(
 // "Reading walks the same nodes from cells": the walk calls itself on parts, and the depth left falls.
 // `off` is what the shifts above take off the first cell.
 #[cycle(both_chosen_tagged_take_without)]
-pub fn take(
-    lent: &[&[u64]; LENT],
-    i: usize,
-    row: &&[u64],
-    left: usize,
-    off: u64,
-    at: &mut usize,
-) -> u64
+pub fn take(lent: &Lent, i: usize, row: &&[u64], left: usize, off: u64, at: &mut usize) -> u64
     requires reading { Reading (plan_of lent.now) (pool_of lent.now) i }
     requires roomy { Roomy left off at.old row.now.now }
     ensures { Taken (2 ^ 62 + (201 - left)) (run (rule_in (plan_of lent.now) (pool_of lent.now)) left off i)
@@ -151,22 +137,18 @@ pub fn take(
     if left == 0 {
         return DEEP;
     }
-    let plan = lent[PLAN];
-    let kind = plan[4 * i];
-    let a = plan[4 * i + 1] as usize;
-    let b = plan[4 * i + 2];
+    let plan = lent.plan;
+    let Entry { kind, a, b, .. } = plan[i];
     match kind {
-        kinds::BELOW => counted(a as u64, row, off, at),
-        kinds::NATS => any(row, off, at),
-        kinds::POOL => listed(lent, a, b as usize, row, off, at),
-        kinds::SHIFT => take(lent, a, row, left - 1, off + b, at),
-        kinds::OR => tagged(lent, a, b as usize, row, left - 1, off, at),
-        kinds::CONS => both(lent, a, b as usize, row, left - 1, off, at),
-        kinds::DEP => chosen(lent, a, b as usize, row, left - 1, off, at),
-        kinds::EXCEPT => without(lent, a, b, row, left - 1, off, at),
-        kinds::FIX => take(lent, a, row, left - 1, off, at),
-        kinds::AGAIN => take(lent, a, row, left - 1, off, at),
-        // Not reached: a checked plan has no other kind.
-        _ => UNFIT,
+        Kind::Below => counted(a as u64, row, off, at),
+        Kind::Nats => any(row, off, at),
+        Kind::Pool => listed(lent, a, b as usize, row, off, at),
+        Kind::Shift => take(lent, a, row, left - 1, off + b, at),
+        Kind::Or => tagged(lent, a, b as usize, row, left - 1, off, at),
+        Kind::Cons => both(lent, a, b as usize, row, left - 1, off, at),
+        Kind::Dep => chosen(lent, a, b as usize, row, left - 1, off, at),
+        Kind::Except => without(lent, a, b, row, left - 1, off, at),
+        Kind::Fix => take(lent, a, row, left - 1, off, at),
+        Kind::Again => take(lent, a, row, left - 1, off, at),
     }
 }

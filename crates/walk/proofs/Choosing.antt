@@ -16,6 +16,7 @@ use Rattle.numbers.specs.Size.{Size, finite, endless, Below, size_of}
 use Rattle.numbers.specs.Dep
 use Rattle.numbers.proofs.size.SizeWords.{by_size}
 use Rattle.numbers.proofs.dep.SplitJoin as Deps
+use Rattle.grammar.specs.declared.entry.Entry.{Entry}
 use Rattle.grammar.specs.Rule.{Item}
 use Rattle.grammar.specs.Checks.{few, fits, is_endless, all_finite, all_endless, all_lower, total}
 use Rattle.grammar.specs.Checks.{count as count_of}
@@ -31,10 +32,11 @@ use Rattle.grammar.proofs.Seconds.{seconds_firsts, seconds_second, finite_total,
 use Rattle.grammar.proofs.laws.Dep.{Shown, shows}
 use Rattle.walk.specs.Plan.{Reading, Visits, Choosing}
 use Rattle.walk.proofs.Visit.{visited, next_by}
-use Rattle.walk.proofs.Nodes.{some_word, checks_by, reads_at, items_by, items_of}
+use Rattle.grammar.specs.declared.kind.Kind.TheVariants as Kinds
+use Rattle.walk.proofs.Nodes.{kind_at, some_word, checks_by, reads_at, items_by, items_of}
 
 -- ---- by its checks
-module _ {plan p : List ℕ} {i : ℕ} (r : Reading plan p i) (e : kind_word plan i ≡ 6) where
+module _ {plan : List Entry} {p : List ℕ} {i : ℕ} (r : Reading plan p i) (e : kind_at plan i ≡ Kinds.Dep) where
   few_first : (w : ℕ) → few (size_of w) ≡ true → w ≤ 256
   few_first w = by_size (λ s. few s ≡ true → w ≤ 256) w (λ l h. leb-true w 256 h) (λ l h. absurd (false≢true h))
 
@@ -114,7 +116,7 @@ module _ {plan p : List ℕ} {i : ℕ} (r : Reading plan p i) (e : kind_word pla
   }
 
 -- ---- by the words a and b of a dep
-module _ {plan p : List ℕ} {a b : ℕ} (d : Choosing plan p a b) where
+module _ {plan : List Entry} {p : List ℕ} {a b : ℕ} (d : Choosing plan p a b) where
   abbrev seconds : List ℕ
   seconds = take (firsts plan a) (drop b p)
 
@@ -149,7 +151,7 @@ module _ {plan p : List ℕ} {a b : ℕ} (d : Choosing plan p a b) where
         (n.walks.some (get_or p (b + k) 0) n.node))
 
 -- ---- a visit
-module _ {plan p : List ℕ} {i n : ℕ} (v : Visits plan p i n) (k : kind_word plan i ≡ 6) where
+module _ {plan : List Entry} {p : List ℕ} {i n : ℕ} (v : Visits plan p i n) (k : kind_at plan i ≡ Kinds.Dep) where
   abbrev chosen : List ℕ
   chosen = take (firsts plan (a_word plan i)) (drop (b_word plan i) p)
 

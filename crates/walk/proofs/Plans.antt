@@ -9,9 +9,12 @@ use Prim.Native.Nat.{ℕ, zero, suc, ◌*◌, ◌^◌, ◌≤◌, ◌<◌}
 use native.Mathlib.Omega.{arith}
 use lib.ListN.{length}
 use Rattle.numbers.specs.Size.{endless, size_of}
+use Rattle.grammar.specs.declared.entry.Entry.{Entry}
 use Rattle.grammar.specs.Kind.{before}
 use Rattle.grammar.specs.Law.{Holds, Fit}
 use Rattle.grammar.specs.kinds.{kinds, unknown, kind_in}
+use Rattle.grammar.specs.declared.kind.Kind.{Kind as Word}
+use Rattle.grammar.specs.declared.kind.Kind.TheVariants.{Below, Nats, Pool, Shift, Or, Cons, Dep, Except, Fix, Again}
 use Rattle.grammar.specs.Plan.{size_in, kind_word, a_word, b_word, node_in, rule_in}
 use Rattle.grammar.specs.kinds.Fix.{pass_rule}
 use Rattle.grammar.proofs.KindLaw.{fit_some, KindLaw, each_kind}
@@ -19,7 +22,7 @@ use Rattle.grammar.proofs.laws.{laws, unknown_law}
 use Rattle.grammar.proofs.Opened.{checking}
 use Rattle.walk.specs.Plan.{Walkable, Visits}
 
-module _ (plan p : List ℕ) (count : ℕ)
+module _ (plan : List Entry) (p : List ℕ) (count : ℕ)
     (holds : (i : ℕ) → i < count → Holds ((kind_in (kind_word plan i)).checks (node_in plan p count i) (before (size_in plan) i)))
     (sized : (i : ℕ) → i < count → size_in plan i ≡ (rule_in plan p i).size) (fit : (i : ℕ) → i < count → Fit (size_in plan i)) where
   -- a fix is endless, whatever its node
@@ -27,7 +30,7 @@ module _ (plan p : List ℕ) (count : ℕ)
   unfolding pass_rule rule_in
   fixes i l e = sized i l ∙ ap (λ (k : ℕ). ((kind_in k).rule (a_word plan i) (b_word plan i) p (before (size_in plan) i)).size) e
 
-  pub plan_walks : 4 * count ≤ length plan → length plan ≤ 1024 → length p ≤ 4096 → Walkable plan p
+  pub plan_walks : count ≤ length plan → length plan ≤ 256 → length p ≤ 4096 → Walkable plan p
   unfolding rule_in
   plan_walks long short slight = record {
     count = count;
@@ -48,10 +51,13 @@ module _ (plan p : List ℕ) (count : ℕ)
 
 -- 0 nats; 1 below 2; 2 a pool of two; 3 a shift of 0; 4 an or of 1 and 0; 5 a cons of 2 and 4; 6 a dep of 1 with seconds 1 and 2;
 -- 7 an except of 5; 8 an again of 9; 9 a fix of 5
-abbrev trees : List ℕ
+abbrev entry : Word → ℕ → ℕ → ℕ → Entry
+entry k a b s = record { kind = k; a = a; b = b; size = s }
+
+abbrev trees : List Entry
 trees =
-    1 ∷ 0 ∷ 0 ∷ 2 ^ 63 ∷ 0 ∷ 2 ∷ 0 ∷ 2 ∷ 2 ∷ 0 ∷ 2 ∷ 2 ∷ 3 ∷ 0 ∷ 7 ∷ 2 ^ 63 ∷ 4 ∷ 1 ∷ 0 ∷ 2 ^ 63 ∷ 5 ∷ 2 ∷ 4 ∷ 2 ^ 63 ∷ 6 ∷ 1 ∷ 0 ∷ 4 ∷ 7 ∷ 5 ∷ 3 ∷ 2 ^ 63
-    ∷ 9 ∷ 9 ∷ 0 ∷ 2 ^ 63 ∷ 8 ∷ 5 ∷ 0 ∷ 2 ^ 63 ∷ []
+    entry Nats 0 0 (2 ^ 63) ∷ entry Below 2 0 2 ∷ entry Pool 0 2 2 ∷ entry Shift 0 7 (2 ^ 63) ∷ entry Or 1 0 (2 ^ 63) ∷ entry Cons 2 4 (2 ^ 63)
+    ∷ entry Dep 1 0 4 ∷ entry Except 5 3 (2 ^ 63) ∷ entry Again 9 0 (2 ^ 63) ∷ entry Fix 5 0 (2 ^ 63) ∷ []
 
 abbrev words : List ℕ
 words = 1 ∷ 2 ∷ []

@@ -2,29 +2,21 @@
 --   tallied_..               a room through no cell, one cell, two walks
 --   tallied_up               what is left does not depend on what the cells are
 --   cells_append             the cells of two walks
---   word_left, word_stops    what a walk hands back, as a word
 --   tally_count, left_within the cells that a room has let through
---   tally_one                one cell, as a word
 --   two_stops, two_left      what stops the first part stops both; what it leaves is the second's room
 -- Assumes nothing.
 use mathlib.Core.Path.{◌≡◌, refl, sym, ap, ◌∙◌}
-use mathlib.Core.Bool.{Bool, true, false}
-use mathlib.Core.Logic.{◌⊎◌, inl, inr, ⊎_elim}
 use mathlib.Core.List.{List, [], ◌∷◌, ◌++◌}
-use Prim.Native.Nat.{ℕ, zero, suc, ◌+◌, ◌-◌, ◌^◌, ◌≤◌, ◌<◌}
+use Prim.Native.Nat.{ℕ, zero, suc, ◌+◌, ◌-◌, ◌≤◌}
 use native.Mathlib.Numerals.{sub-one}
 use native.Mathlib.Omega.{arith}
-use lib.Dec.{eqb}
 use lib.ListN.{length}
-use borrow.Author.Tests.{lt-ltb, le-ltb}
-use Rattle.numbers.specs.Pick.{pick}
 use Rattle.grammar.specs.Rule.{Item, own, part, Rule}
 use Rattle.walk.specs.Walk.{Event, cell, deep, shown, walk, cells}
-use Rattle.walk.specs.Room.{RoomLeft, Left, TooDeep, NoRoom, tallied, most}
-use Rattle.walk.specs.Laid.{left_of}
+use Rattle.walk.specs.Room.{RoomLeft, Left, TooDeep, NoRoom, tallied}
 
 -- ---- the room
-abbrev onward : RoomLeft → (ℕ → RoomLeft) → RoomLeft
+abbrev pub onward : RoomLeft → (ℕ → RoomLeft) → RoomLeft
 onward (Left r) f = f r
 onward TooDeep f = TooDeep
 onward NoRoom f = NoRoom
@@ -48,6 +40,10 @@ pub tallied_cell : (room c : ℕ) (es : List Event) → (room ≡ 0 → ⊥) →
 unfolding tallied
 tallied_cell zero c es f = absurd (f refl)
 tallied_cell (suc room) c es f = rw sub-one
+
+pub tallied_one : (room c : ℕ) → (room ≡ 0 → ⊥) → Left (room - 1) ≡ tallied room (cell c ∷ [])
+unfolding tallied
+tallied_one room c f = tallied_cell room c [] f
 
 -- ---- what a cell is does not matter
 pub tallied_any : (room c c' : ℕ) (es : List Event) → tallied room (cell c ∷ es) ≡ tallied room (cell c' ∷ es)
@@ -104,31 +100,15 @@ tally_count room (deep ∷ es) e = let z : ◌≡◌ {A = ℕ} 0 1 = cc in absur
 tally_count zero (cell c ∷ es) e = let z : ◌≡◌ {A = ℕ} 0 1 = cc in absurd (omega arith)
 tally_count (suc room) (cell c ∷ es) e = omega (arith, tally_count room es e)
 
--- ---- the code's word
-pub word_left : (w : ℕ) → w < 2 ^ 63 → left_of w ≡ Left w
-word_left w l = rw (lt-ltb w (2 ^ 63) l)
-
-pub word_stops : (w : ℕ) → 2 ^ 63 ≤ w → (left_of w ≡ TooDeep) ⊎ (left_of w ≡ NoRoom)
-word_stops w l = rw (le-ltb w (2 ^ 63) l) (by (eqb w (2 ^ 63)))
-  where
-    by : (b : Bool) → (pick b TooDeep NoRoom ≡ TooDeep) ⊎ (pick b TooDeep NoRoom ≡ NoRoom)
-    by true = inl refl
-    by false = inr refl
-
-pub left_within : {room w : ℕ} (es : List Event) → left_of w ≡ tallied room es → w < 2 ^ 63 → w ≤ room
-left_within {room} {w} es e l = omega (arith, tally_count room es (sym e ∙ word_left w l))
-
-pub tally_one : (room : ℕ) → (room ≡ 0 → ⊥) → room ≤ most → left_of (room - 1) ≡ tallied room (cell 0 ∷ [])
-unfolding tallied
-tally_one room f l = word_left (room - 1) (omega arith) ∙ tallied_cell room 0 [] f
+-- ---- what is left
+pub left_within : {room rest : ℕ} (es : List Event) → Left rest ≡ tallied room es → rest ≤ room
+left_within {room} es e = omega (arith, tally_count room es (sym e))
 
 -- ---- two parts
-module _ (room : ℕ) (xs ys : List Event) (w : ℕ) (e : left_of w ≡ tallied room xs) where
-  same_stop : {a : RoomLeft} → left_of w ≡ a → onward a (λ r. tallied r ys) ≡ a → left_of w ≡ tallied room (xs ++ ys)
-  same_stop q h = q ∙ sym (tallied_then room xs ys ∙ (ap (λ (a : RoomLeft). onward a (λ r. tallied r ys)) (sym e ∙ q) ∙ h))
+module _ (room : ℕ) (xs ys : List Event) where
+  -- what stops the first, whatever room is met by the second
+  pub two_stops : {a : RoomLeft} → ((f : ℕ → RoomLeft) → onward a f ≡ a) → a ≡ tallied room xs → a ≡ tallied room (xs ++ ys)
+  two_stops {a} h e = sym (tallied_then room xs ys ∙ (ap (λ (a : RoomLeft). onward a (λ r. tallied r ys)) (sym e) ∙ h (λ r. tallied r ys)))
 
-  pub two_stops : 2 ^ 63 ≤ w → left_of w ≡ tallied room (xs ++ ys)
-  two_stops l = ⊎_elim (λ q. same_stop q refl) (λ q. same_stop q refl) (word_stops w l)
-
-  pub two_left : w < 2 ^ 63 → {b : RoomLeft} → b ≡ tallied w ys → b ≡ tallied room (xs ++ ys)
-  two_left l h = h ∙ sym (tallied_then room xs ys ∙ ap (λ (a : RoomLeft). onward a (λ r. tallied r ys)) (sym e ∙ word_left w l))
+  pub two_left : {w : ℕ} → Left w ≡ tallied room xs → {b : RoomLeft} → b ≡ tallied w ys → b ≡ tallied room (xs ++ ys)
+  two_left e h = h ∙ sym (tallied_then room xs ys ∙ ap (λ (a : RoomLeft). onward a (λ r. tallied r ys)) (sym e))

@@ -10,6 +10,7 @@ use Prim.Native.Nat.{ℕ, zero, suc, ◌+◌, ◌-◌, ◌≤◌}
 use native.Mathlib.Numerals.{sub-one}
 use native.Mathlib.Omega.{arith}
 use Rattle.numbers.specs.Size.{Below}
+use Rattle.grammar.specs.declared.entry.Entry.{Entry}
 use Rattle.grammar.specs.Plan.{size_in, rule_in}
 use Rattle.grammar.specs.Rule.{Item, own, part, Rule}
 use Rattle.grammar.specs.Law.{Each, Down, flat, guarded, skip}
@@ -56,14 +57,14 @@ module _ (g : ℕ → Rule) (i n up : ℕ) {d : ℕ} where
     walk_two e q = walk_by e ∙ rw (q, append-nil)
 
 -- ---- the parts of a visit
-pub record Next (plan p : List ℕ) (n q m : ℕ) : Type 0 where
+pub record Next (plan : List Entry) (p : List ℕ) (n q m : ℕ) : Type 0 where
   pub visits : Visits plan p q m
   pub near : m ≤ n + 1
 
-pub visited : {plan p : List ℕ} {i n : ℕ} → Visits plan p i n → Reading plan p i
+pub visited : {plan : List Entry} {p : List ℕ} {i n : ℕ} → Visits plan p i n → Reading plan p i
 visited v = record { walks = v.walks; node = v.node }
 
-nexts : {plan p : List ℕ} {i n : ℕ} → Visits plan p i n → Each (Next plan p n) ((rule_in plan p i).items n)
+nexts : {plan : List Entry} {p : List ℕ} {i n : ℕ} → Visits plan p i n → Each (Next plan p n) ((rule_in plan p i).items n)
 nexts {plan} {p} {i} {n} v =
     let g = v.walks.good in
     let r = g.lawful i v.node in
@@ -76,5 +77,5 @@ nexts {plan} {p} {i} {n} v =
     near (guarded l) = omega arith
     near (skip e l) = l
 
-pub next_by : {plan p : List ℕ} {i n : ℕ} → Visits plan p i n → {is : List Item} → (rule_in plan p i).items n ≡ is → Each (Next plan p n) is
+pub next_by : {plan : List Entry} {p : List ℕ} {i n : ℕ} → Visits plan p i n → {is : List Item} → (rule_in plan p i).items n ≡ is → Each (Next plan p n) is
 next_by {plan} {p} {i} {n} v e = subst (Each (Next plan p n)) e (nexts v)

@@ -6,7 +6,8 @@
 --   Raised     what the shifts above a node may add to its first cell
 -- Assumes nothing.
 use Rattle.std.specs.Prelude.{◌≡◌, true, ◌||◌, ◌⊎◌, List, ℕ, ◌+◌, ◌*◌, ◌≤◌, ◌<◌, length, get_or, take, drop}
-use Rattle.numbers.specs.Size.{Below, Some}
+use Rattle.numbers.specs.Size.{Below, NotZero}
+use Rattle.grammar.specs.declared.entry.Entry.{Entry}
 use Rattle.grammar.specs.Law.{Good, Holds}
 use Rattle.grammar.specs.Kind.{before}
 use Rattle.grammar.specs.kinds.{kind_in}
@@ -15,26 +16,26 @@ use Rattle.grammar.specs.Checks.{all_finite, all_endless}
 use Rattle.grammar.specs.Seconds.{firsts, DepIn}
 
 -- short, slight: places in plan and pool fit a word, however they are lent
-pub record Walkable (plan p : List ℕ) : Type 0 where
+pub record Walkable (plan : List Entry) (p : List ℕ) : Type 0 where
   pub count : ℕ
-  pub long : 4 * count ≤ length plan
+  pub long : count ≤ length plan
   pub good : Good (size_in plan) count (rule_in plan p)
   pub holds : (i : ℕ) → i < count → Holds ((kind_in (kind_word plan i)).checks (node_in plan p count i) (before (size_in plan) i))
-  pub some : (i : ℕ) → i < count → Some (size_in plan i)
-  pub short : length plan ≤ 1024
+  pub some : (i : ℕ) → i < count → NotZero (size_in plan i)
+  pub short : length plan ≤ 256
   pub slight : length p ≤ 4096
 
-pub record Reading (plan p : List ℕ) (i : ℕ) : Type 0 where
+pub record Reading (plan : List Entry) (p : List ℕ) (i : ℕ) : Type 0 where
   pub walks : Walkable plan p
   pub node : i < walks.count
 
-pub record Visits (plan p : List ℕ) (i n : ℕ) : Type 0 where
+pub record Visits (plan : List Entry) (p : List ℕ) (i n : ℕ) : Type 0 where
   pub walks : Walkable plan p
   pub node : i < walks.count
   pub below : Below n (size_in plan i)
 
 -- of its words a and b: "its size m finite, at most 256", "all finite or all endless"
-pub record Choosing (plan p : List ℕ) (a b : ℕ) : Type 0 where
+pub record Choosing (plan : List Entry) (p : List ℕ) (a b : ℕ) : Type 0 where
   pub words : DepIn plan p a b
   pub first : Reading plan p a
   pub few : firsts plan a ≤ 256
@@ -42,5 +43,5 @@ pub record Choosing (plan p : List ℕ) (a b : ℕ) : Type 0 where
   pub seconds : (x : ℕ) → x < firsts plan a → Reading plan p (get_or p (b + x) 0)
 
 -- nothing, or the node is "of kind 0, 1 or 3": no other stands under a shift
-pub record Raised (plan : List ℕ) (i up : ℕ) : Type 0 where
+pub record Raised (plan : List Entry) (i up : ℕ) : Type 0 where
   pub is : (up ≡ 0) ⊎ ((kind_word plan i ≡ 0) ⊎ ((kind_word plan i ≡ 1) ⊎ (kind_word plan i ≡ 3)))

@@ -1,6 +1,8 @@
-// What a walk is lent beside its cells, in one array that a visit hands on as one word: the pool, the plan.
-pub const LENT: usize = 2;
+// What a walk is lent beside its cells. A visit hands it on as one word, so it is passed by reference.
+use grammar::entry::Entry;
 
-pub const POOL: usize = 0;
-
-pub const PLAN: usize = 1;
+#[derive(Clone, Copy)]
+pub struct Lent<'a> {
+    pub pool: &'a [u64],
+    pub plan: &'a [Entry],
+}

@@ -9,7 +9,7 @@ use mathlib.Core.List.Memᴰ
 use Prim.Native.Nat.{ℕ, ◌*◌, ◌^◌, ◌<◌}
 use native.Mathlib.Omega.{arith}
 use borrow.Author.Tests.{ltb-true, leb-true}
-use Rattle.numbers.specs.Size.{Size, finite, endless, Some, times}
+use Rattle.numbers.specs.Size.{Size, finite, endless, NotZero, times}
 use Rattle.grammar.specs.Checks.{fits}
 use Rattle.grammar.specs.Law.{Fit, flat, Lawful}
 use Rattle.grammar.proofs.KindLaw.{fit_some, lower_both, KindLaw, Lower, Plain}
@@ -19,7 +19,7 @@ use Rattle.numbers.proofs.cons.SplitJoin as Conses
 use Rattle.grammar.specs.kinds.Cons.{both, cons_rule, cons}
 use Rattle.grammar.specs.Refusals.{number_of}
 
-cons_rule_lem : (z : ℕ → Size) (count a b : ℕ) → a < count → b < count → Some (z a) → Some (z b) → Lawful z count (cons_rule (z a) (z b) a b)
+cons_rule_lem : (z : ℕ → Size) (count a b : ℕ) → a < count → b < count → NotZero (z a) → NotZero (z b) → Lawful z count (cons_rule (z a) (z b) a b)
 unfolding cons_rule
 cons_rule_lem z count a b la lb sa sb = record {
   writes = λ n h.

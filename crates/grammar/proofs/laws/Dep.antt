@@ -11,7 +11,7 @@ use native.Mathlib.Omega.{arith}
 use lib.Dec.{ltb}
 use lib.ListN.{length, get_or}
 use borrow.Author.Tests.{ltb-true, leb-true}
-use Rattle.numbers.specs.Size.{Size, finite, endless, Below, Some}
+use Rattle.numbers.specs.Size.{Size, finite, endless, Below, NotZero}
 use Rattle.grammar.specs.Checks.{fits, is_endless}
 use Rattle.grammar.specs.Law.{Fit, Under, flat, Lawful, Holds}
 use Rattle.numbers.proofs.Tests.{and_left, and_right}
@@ -32,7 +32,7 @@ use Rattle.grammar.specs.kinds.Dep.{counts, seconds_of, chosen, dep_rule, dep}
 use Rattle.grammar.proofs.Seconds.{seconds_firsts, seconds_size, seconds_second}
 use Rattle.grammar.specs.Refusals.{number_of}
 
-few_count : (s : Size) → few s ≡ true → Some s → 0 < count_of s
+few_count : (s : Size) → few s ≡ true → NotZero s → 0 < count_of s
 few_count (finite m) e h = h
 few_count endless e h = absurd (false≢true e)
 
@@ -57,8 +57,8 @@ lower_under count n (c ∷ cs) l e =
     (omega arith, lower_under count n cs l (and_right (ltb c n) (all_lower n cs) e))
 
 -- cs are the seconds, as many as the first part has numbers
-module _ (z : ℕ → Size) (count a : ℕ) (cs : List ℕ) (long : length cs ≡ count_of (z a)) (small : few (z a) ≡ true) (sa : Some (z a))
-    (alike : (all_finite z cs || all_endless z cs) ≡ true) (some : (x : ℕ) → x < length cs → Some (z (get_or cs x 0))) where
+module _ (z : ℕ → Size) (count a : ℕ) (cs : List ℕ) (long : length cs ≡ count_of (z a)) (small : few (z a) ≡ true) (sa : NotZero (z a))
+    (alike : (all_finite z cs || all_endless z cs) ≡ true) (some : (x : ℕ) → x < length cs → NotZero (z (get_or cs x 0))) where
   abbrev zs : Seconds
   zs = seconds_of z cs
 
@@ -167,10 +167,10 @@ module _ (v : Node) (z : ℕ → Size) (f : (i : ℕ) → i < v.own → Fit (z i
   seconds_long : length ds ≡ count_of (z v.a)
   seconds_long = simp (length-take, length-drop) (omega (arith, d.inside))
 
-  first_some : Some (z v.a)
+  first_some : NotZero (z v.a)
   first_some = fit_some (z v.a) (f v.a (ltb-true v.a v.own d.low))
 
-  second_some : (x : ℕ) → x < length ds → Some (z (get_or ds x 0))
+  second_some : (x : ℕ) → x < length ds → NotZero (z (get_or ds x 0))
   second_some x l = fit_some (z (get_or ds x 0)) (f (get_or ds x 0) (ltb-true (get_or ds x 0) v.own (every_at (λ c. ltb c v.own) ds x l d.lower)))
 
   seconds_many : 0 < length ds

@@ -10,7 +10,7 @@ use Prim.Native.Nat.{ℕ, ◌<◌}
 use native.Mathlib.Omega.{arith}
 use lib.Dec.{eqb, ltb}
 use borrow.Author.Tests.{ltb-true, eqb-true}
-use Rattle.numbers.specs.Size.{Size, finite, endless, Below, Some, plus}
+use Rattle.numbers.specs.Size.{Size, finite, endless, Below, NotZero, plus}
 use Rattle.grammar.specs.Law.{Spells, Each, Down, flat, guarded, Lawful}
 use Rattle.grammar.specs.Rule.{Item, own, Rule}
 use Rattle.grammar.proofs.Trees.{spell_done, spell_takes, spell_reads, read_pick, names_pick}
@@ -25,7 +25,7 @@ use Rattle.grammar.specs.kinds.Or.{tagged, or_rule, or}
 use Rattle.grammar.specs.Refusals.{number_of}
 
 -- the second part has a number below its own
-turn_above : (u : Size) (m : ℕ) → Some u → m < turn 1 u m
+turn_above : (u : Size) (m : ℕ) → NotZero u → m < turn 1 u m
 turn_above (finite u) m h = pick_by (λ n. m < n) (ltb m u) (λ e. omega arith) (λ e. omega arith)
 turn_above endless m h = omega arith
 
@@ -38,12 +38,12 @@ module _ (z : ℕ → Size) (count a b : ℕ) where
   or_writes (First m) h = spell_takes z _ 0 (spell_reads z a 0 _ m h (spell_done z (Or.join (z a) (z b) (First m))))
   or_writes (Second m) h = spell_takes z _ 1 (spell_reads z b 0 _ m h (spell_done z (Or.join (z a) (z b) (Second m))))
 
-  or_falls : Some (z a) → (n : ℕ) (q : Part) → Or.join (z a) (z b) q ≡ n → Each (Down rule n) (tagged a b q)
+  or_falls : NotZero (z a) → (n : ℕ) (q : Part) → Or.join (z a) (z b) q ≡ n → Each (Down rule n) (tagged a b q)
   unfolding or_rule Or.join
   or_falls s n (First m) e = (flat (Memᴰ.head refl) (omega (arith, Ors.turn_least 0 (z b) m)), tt)
   or_falls s n (Second m) e = (guarded (omega (arith, turn_above (z a) m s)), tt)
 
-  or_rule_lem : a < count → b < count → Some (z a) → Lawful z count rule
+  or_rule_lem : a < count → b < count → NotZero (z a) → Lawful z count rule
   unfolding or_rule
   or_rule_lem la lb sa = record {
     writes = λ n h. subst (Spells z rule.tree (tagged a b (Or.split (z a) (z b) n))) (Ors.join_split (z a) (z b) n)

@@ -10,7 +10,7 @@ ghost use Rattle.grammar.specs.Shown.{ShowsTwo};
 use super::super::entry::Entry;
 use super::super::refusal::Refusal;
 use super::{Two, asks, of_measured};
-use numbers::joined::word;
+use numbers::joined::BIG;
 use numbers::size;
 
 #[tactic(auto, unfolding(crate::specs::Plan::weighed, crate::specs::Plan::coded, crate::specs::Checks::row))]
@@ -44,5 +44,5 @@ pub fn join(plan: &[Entry], a: usize, b: usize, x: u64, y: u64) -> u64
     requires { (a < length plan.now) × (b < length plan.now) }
     ensures { result ≡ word_of (capped (Cons.join (size_in plan.now a) (size_in plan.now b) x y)) }
 {
-    word(numbers::cons::join(plan[a].size, plan[b].size, x, y))
+    numbers::cons::join(plan[a].size, plan[b].size, x, y).unwrap_or(BIG)
 }

@@ -19,7 +19,7 @@ use super::super::pool_words::{all_lower, run, run_within};
 use super::super::refusal::Refusal;
 use super::{Two, asks};
 use numbers::cons::Pair;
-use numbers::joined::{Joined, word};
+use numbers::joined::BIG;
 use numbers::size::{ENDLESS, LARGEST};
 
 // "its size m finite, at most 256"
@@ -135,7 +135,7 @@ fn sum_of(plan: &[Entry], words: &[u64]) -> u64
 }
 
 // The number of a dep's case: x is the first part's number, y that of the second that it chooses.
-fn joined(pool: &[u64], plan: &[Entry], a: usize, b: usize, x: u64, y: u64) -> Joined
+fn joined(pool: &[u64], plan: &[Entry], a: usize, b: usize, x: u64, y: u64) -> Option<u64>
     requires { DepIn plan.now pool.now a b × (x < firsts plan.now a) }
     ensures { result ≡ capped (Dep.join (seconds_sized plan.now pool.now a b) x y) }
 {
@@ -151,7 +151,7 @@ pub fn join(pool: &[u64], plan: &[Entry], a: usize, b: usize, x: u64, y: u64) ->
     requires { DepIn plan.now pool.now a b × (x < firsts plan.now a) }
     ensures { result ≡ word_of (capped (Dep.join (seconds_sized plan.now pool.now a b) x y)) }
 {
-    word(joined(pool, plan, a, b, x, y))
+    joined(pool, plan, a, b, x, y).unwrap_or(BIG)
 }
 
 // "to a dep's first and each second"

@@ -9,7 +9,7 @@ ghost use Rattle.grammar.specs.Plan.{size_in, weighed};
 use super::super::entry::Entry;
 use super::super::refusal::Refusal;
 use super::asks;
-use numbers::joined::word;
+use numbers::joined::BIG;
 use numbers::size;
 use numbers::size::LARGEST;
 
@@ -31,5 +31,5 @@ pub fn join(b: u64, m: u64) -> u64
     requires { m ≡ b → ⊥ }
     ensures { result ≡ word_of (capped (Except.join b m)) }
 {
-    word(numbers::except::join(b, m))
+    numbers::except::join(b, m).unwrap_or(BIG)
 }

@@ -14,7 +14,7 @@ use super::super::entry::Entry;
 use super::super::named::{Named, one, two};
 use super::super::refusal::Refusal;
 use super::{Tagged, asks, of_measured};
-use numbers::joined::word;
+use numbers::joined::BIG;
 use numbers::or::Part;
 use numbers::size;
 
@@ -79,5 +79,5 @@ pub fn join(plan: &[Entry], tag: u64, c: usize, m: u64) -> u64
     requires { (tag ≤ 1) × (c < length plan.now) }
     ensures { result ≡ word_of (capped (Or.turn tag (size_in plan.now c) m)) }
 {
-    word(numbers::or::turned(tag, plan[c].size, m))
+    numbers::or::turned(tag, plan[c].size, m).unwrap_or(BIG)
 }

@@ -14,7 +14,7 @@ use lib.Arith.{digits_lt, digits_div, digits_mod}
 use lib.Dec.{ltb}
 use borrow.Author.Tests.{ltb-true, ltb-false, lt-ltb, le-ltb}
 use Rattle.numbers.specs.Pick.{pick}
-use Rattle.numbers.specs.Size.{Size, finite, endless, Below, Some, times}
+use Rattle.numbers.specs.Size.{Size, finite, endless, Below, NotZero, times}
 use Rattle.numbers.specs.Root.{root}
 use Rattle.numbers.specs.Cons.{pair, edge, split, join}
 use Rattle.numbers.specs.declared.cons.Pair.{Pair}
@@ -30,7 +30,7 @@ quotient_below : (n i j : ℕ) → 0 < j → n < i * j → n / j < i
 quotient_below n i j p h = (div-lt_iff_lt-mul {k = j} {x = n} {y = i} p).1 h
 
 -- ---- 1
-pub split_below : (i j : Size) (n : ℕ) → Some i → Some j → Below n (times i j) → PairBelow i j (split i j n)
+pub split_below : (i j : Size) (n : ℕ) → NotZero i → NotZero j → Below n (times i j) → PairBelow i j (split i j n)
 unfolding split times
 split_below endless endless n a b h = (tt, tt)
 split_below (finite i) endless n a b h = (mod-lt n a, tt)
@@ -97,7 +97,7 @@ split_join (finite i) (finite j) x y a b = unfold split join in by (ltb i j)
 at_least : (q m r : ℕ) → 0 < m → (q ≤ q * m + r) × (r ≤ q * m + r)
 at_least q m r h = (omega (arith, mul-le-mul {n₁ = q} {m₁ = 1} {n₂ = q} {m₂ = m} (omega arith) h), omega arith)
 
-pub join_least : (i j : Size) (x y : ℕ) → Some i → Some j → (x ≤ join i j x y) × (y ≤ join i j x y)
+pub join_least : (i j : Size) (x y : ℕ) → NotZero i → NotZero j → (x ≤ join i j x y) × (y ≤ join i j x y)
 unfolding join
 join_least endless endless x y a b =
     pick_by (λ n. (x ≤ n) × (y ≤ n)) (ltb x y) (λ e. (omega arith, omega (arith, own_square y))) (λ e. (omega arith, omega arith))

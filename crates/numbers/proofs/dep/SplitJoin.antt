@@ -15,7 +15,7 @@ use lib.Arith.{digits_div, digits_mod}
 use lib.Dec.{ltb}
 use lib.ListN.{length, get_or, take}
 use borrow.Author.Tests.{ltb-true, ltb-false, lt-ltb, le-ltb}
-use Rattle.numbers.specs.Size.{Below, Some}
+use Rattle.numbers.specs.Size.{Below, NotZero}
 use Rattle.numbers.specs.Cons.{pair}
 use Rattle.numbers.specs.Dep.{Seconds, finites, endlesses, total, size, firsts, second, after_first, in_turn, split, join}
 use Rattle.numbers.specs.declared.cons.Pair.{Pair}
@@ -98,7 +98,7 @@ sum_least ts zero h f = omega arith
 sum_least [] (suc x) h f = absurd (omega arith)
 sum_least (t ∷ ts) (suc x) h f = omega (arith, f 0 (omega arith), sum_least ts x (omega arith) (λ k l. f (suc k) (omega arith)))
 
-pub join_least : (s : Seconds) (x y : ℕ) → x < firsts s → ((k : ℕ) → k < firsts s → Some (second s k)) → (x ≤ join s x y) × (y ≤ join s x y)
+pub join_least : (s : Seconds) (x y : ℕ) → x < firsts s → ((k : ℕ) → k < firsts s → NotZero (second s k)) → (x ≤ join s x y) × (y ≤ join s x y)
 unfolding join
 join_least (finites ts) x y h f = (omega (arith, sum_least ts x (omega arith) f), omega arith)
 join_least (endlesses m) x y h f = (omega arith, omega (arith, mul-le-mul {n₁ = y} {m₁ = 1} {n₂ = y} {m₂ = m} (omega arith) (omega arith)))

@@ -1,17 +1,13 @@
--- The largest root that a walk has, that of the limit; and a root that is looked for number by number.
+-- The largest root that a walk has, that of the limit.
 --   top_small   that root is three bytes long
 --   in_range    a number whose power is within the limit is at most that root
 --   fits, word  the power of the next number is a word still, and so is its own
---   some        a power above n is not that of 0
---   lowered     and then n is still below the next power where r is lowered by one
---   ends_here, ends_before   the power of the root is within n, and that of the next number is not
 -- Assumes nothing.
-use mathlib.Core.Path.{◌≡◌, refl}
-use Prim.Native.Nat.{ℕ, zero, suc, ◌+◌, ◌-◌, ◌^◌, ◌≤◌, ◌<◌}
+use Prim.Native.Nat.{ℕ, zero, suc, ◌+◌, ◌^◌, ◌≤◌, ◌<◌}
 use native.Mathlib.Omega.{arith}
 use Rattle.numbers.specs.Joined.{limit}
 use Rattle.numbers.specs.Power.{root_by, root_of}
-use Rattle.numbers.proofs.power.Powers.{pow_le, zero_pow, root_is, root_one}
+use Rattle.numbers.proofs.power.Powers.{pow_le, root_is}
 
 by_count : (P : ℕ → Type 0) → P 3 → P 4 → P 5 → P 6 → P 7 → P 8 → (t : ℕ) → 3 ≤ t → t ≤ 8 → P t
 by_count P a b c d e f zero l h = absurd (omega arith)
@@ -55,22 +51,3 @@ module _ (t : ℕ) (l : 3 ≤ t) (h : t ≤ 8) where
 
   pub word : (r : ℕ) → r ≤ root_of t limit → r ^ t < 2 ^ 63
   word r k = omega (arith, pow_le t {a = r} {b = r + 1} (omega arith), fits r k)
-
--- ---- a root that is looked for number by number; p is the power that was made
-module _ {t n p : ℕ} (r : ℕ) (l : 3 ≤ t) (e : p ≡ r ^ t) where
-  pub some : n < p → 0 < r
-  some k = by r refl
-    where
-      by : (s : ℕ) → r ≡ s → 0 < r
-      by zero z = absurd (omega (arith, (rw z at e), zero_pow t (omega arith)))
-      by (suc s) z = omega arith
-
-  pub lowered : n < p → n < (r - 1 + 1) ^ t
-  lowered k = let s : r - 1 + 1 ≡ r = omega (arith, some k) in rw s (omega arith)
-
-  pub ends_here : p ≤ n → n < (r + 1) ^ t → r ≡ root_of t n
-  ends_here h k = root_one (record { within = omega arith; most = k }) (root_is t n (omega arith))
-
-module _ {t n p : ℕ} (r : ℕ) (l : 3 ≤ t) (e : p ≡ (r + 1) ^ t) where
-  pub ends_before : r ^ t ≤ n → n < p → r ≡ root_of t n
-  ends_before h k = root_one (record { within = h; most = omega arith }) (root_is t n (omega arith))

@@ -1,18 +1,13 @@
 -- Newton's step for a square root, r ↦ (r + n / r) / 2.
---   step_above_lem    from any guess it gives the root or more
---   lowered       a guess that is more than the root may be lowered by one
---   met           and once its square is within n it is the root
---   far_above     the root of a number that is not small is more than 1
+--   step_above_lem   from any guess it gives the root or more
 -- Assumes nothing.
 use mathlib.Core.Path.{◌≡◌, refl}
 use mathlib.Core.Bool.{Bool, true, false}
-use Prim.Native.Nat.{ℕ, zero, suc, ◌+◌, ◌*◌, ◌-◌, ◌/◌, ◌^◌, ◌≤◌, ◌<◌}
+use Prim.Native.Nat.{ℕ, ◌+◌, ◌*◌, ◌-◌, ◌/◌, ◌≤◌, ◌<◌}
 use native.Mathlib.Nat.{lt-div-mul-add, mul-le-mul}
 use native.Mathlib.Omega.{arith}
 use lib.Dec.{leb}
 use borrow.Author.Tests.{leb-true, leb-false}
-use Rattle.numbers.specs.Root.{Above, root}
-use Rattle.numbers.proofs.root.Near.{ends}
 
 -- four times a product is at most the square of the sum
 four_apart : (a b d : ℕ) → b ≡ a + d → 4 * (a * b) ≤ (a + b) * (a + b)
@@ -31,35 +26,3 @@ module _ (n r : ℕ) where
       let m = (r + n / r) / 2 + 1 in
       let sum : (n / r + 1) + r ≤ 2 * m = omega arith in
       omega (arith, lt-div-mul-add {a = n} {b = r} p, four (n / r + 1) r, mul-le-mul sum sum)
-
-  pub above_zero : n < r * r → 0 < r
-  above_zero h = by r refl
-    where
-      by : (k : ℕ) → r ≡ k → 0 < r
-      by zero e = absurd (omega (arith, (rw e at h)))
-      by (suc k) e = omega arith
-
-  -- one less is still the root or more, where the square is above n
-  pub lowered : Above n r → n < r * r → Above n (r - 1)
-  lowered a h = let e : r - 1 + 1 ≡ r = omega (arith, above_zero h) in record { above = rw e h; word = omega (arith, a.word) }
-
-  pub met : Above n r → r * r ≤ n → r ≡ root n
-  met a h = ends n r h a.above
-
--- a word's root is at most 2^32 - 1
-pub most_above : (n : ℕ) → n < 2 ^ 64 → Above n (2 ^ 32 - 1)
-most_above n h = record { above = omega arith; word = omega arith }
-
--- a guess that is the root of n or more is more than 1, where n is not small
-pub far_above : (n r : ℕ) → Above n r → 4 ≤ n → 1 < r
-far_above n r a l = by (leb r 1) refl
-  where
-    by : (q : Bool) → leb r 1 ≡ q → 1 < r
-    by true e = absurd (omega (
-      arith,
-      a.above,
-      mul-le-mul {n₁ = r + 1} {m₁ = r + 1} {n₂ = 2} {m₂ = 2} (omega (arith, leb-true r 1 e))
-          (omega (arith, leb-true r 1 e)),
-      l,
-    ))
-    by false e = leb-false r 1 e

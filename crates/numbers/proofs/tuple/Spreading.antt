@@ -1,6 +1,5 @@
 -- A list by its place, number by number.
 --   Spread        what is done, and the list that is left, are the whole
---   none_spread   with nothing done
 --   lower_spread, at_spread   one more, which is below the largest number, or is that
 --   all_spread    all done
 -- Assumes nothing.
@@ -11,28 +10,25 @@ use Prim.Native.Nat.{ℕ, suc, ◌+◌, ◌*◌, ◌-◌, ◌/◌, ◌%◌, ◌�
 use native.Mathlib.Numerals.{add-one}
 use native.Mathlib.Omega.{arith}
 use lib.ListN.{length, take, set, length-set}
-use lib.Seq.{take-suc-set}
+use lib.Seq.{take-suc-set, take-length}
 use borrow.Author.Tests.{lt-ltb, le-ltb}
 use Rattle.numbers.specs.Tuple.{ways, tail}
 
 pub record Spread (t r d : ℕ) (parts : List ℕ) (left : ℕ) (seen : Bool) (j : ℕ) : Type 0 where
   pub within : j ≤ t
-  pub long : length parts ≡ 8
+  pub long : length parts ≡ t
   pub whole : take j parts ++ tail seen r (t - j) left ≡ tail false r t d
 
-pub none_spread : (t r d : ℕ) {parts : List ℕ} → length parts ≡ 8 → Spread t r d parts d false 0
-none_spread t r d e = let z : t - 0 ≡ t = omega arith in record { within = omega arith; long = e; whole = rw z }
-
 module _ {t r d : ℕ} {parts : List ℕ} {left : ℕ} {seen : Bool} {j : ℕ} (s : Spread t r d parts left seen j) where
-  pub all_spread : t ≤ j → take t parts ≡ tail false r t d
+  pub all_spread : t ≤ j → parts ≡ tail false r t d
   unfolding tail
   all_spread h =
-      let e : j ≡ t = omega (arith, s.within) in
-      let z : t - t ≡ 0 = omega arith in
-      rw (e, z, append-nil) at s.whole
+      let e : j ≡ length parts = omega (arith, s.within, s.long) in
+      let z : t - length parts ≡ 0 = omega (arith, s.long) in
+      rw (e, z, append-nil, take-length) at s.whole
 
   -- one more
-  module _ (k : j < t) (few : t ≤ 8) {ps : List ℕ} {l : ℕ} {q : Bool} where
+  module _ (k : j < t) {ps : List ℕ} {l : ℕ} {q : Bool} where
     more : (v : ℕ) → ps ≡ set parts j v → tail seen r (suc (t - 1 - j)) left ≡ v ∷ tail q r (t - 1 - j) l → Spread t r d ps l q (j + 1)
     more v a b =
         let y : suc (t - 1 - j) ≡ t - j = omega arith in

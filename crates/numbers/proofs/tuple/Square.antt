@@ -4,8 +4,8 @@
 use mathlib.Core.Path.{◌≡◌, refl, ◌∙◌}
 use mathlib.Core.Bool.{Bool, true, false}
 use mathlib.Core.List.{[], ◌∷◌}
-use Prim.Native.Nat.{ℕ, ◌+◌, ◌*◌, ◌^◌, ◌≤◌, max}
-use native.Mathlib.Nat.{le_refl, pow-suc, pow-zero}
+use Prim.Native.Nat.{ℕ, ◌+◌, ◌*◌, ◌≤◌, max}
+use native.Mathlib.Nat.{le_refl}
 use native.Mathlib.Omega.{arith}
 use lib.Dec.{ltb}
 use borrow.Author.Tests.{ltb-true, ltb-false, le-ltb}
@@ -15,10 +15,8 @@ use Rattle.numbers.specs.Cons as Cons
 use Rattle.numbers.specs.Tuple.{largest, ways, rank, split, join}
 use Rattle.numbers.proofs.Tests.{pick_by}
 use Rattle.numbers.proofs.cons.SplitJoin as ConsLaws
+use Rattle.numbers.proofs.root.Square.{two}
 use Rattle.numbers.proofs.tuple.SplitJoin.{split_join}
-
-two : (r : ℕ) → r ^ 2 ≡ r * r
-two r = rw (pow-suc r 1, pow-suc r 0, pow-zero r) (omega arith)
 
 last : (r y : ℕ) → y ≤ r → pick (ltb y r) (y * 1 + 0) (r * 1 + 0) ≡ y
 last r y l = pick_by (λ n. n ≡ y) (ltb y r) (λ e. omega arith) (λ e. omega (arith, ltb-false y r e))

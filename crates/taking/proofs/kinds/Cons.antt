@@ -7,6 +7,7 @@ use native.Mathlib.Omega.{arith}
 use Rattle.numbers.specs.Cons
 use Rattle.numbers.specs.Joined.{capped, word_of}
 use Rattle.numbers.proofs.cons.SplitJoin as Conses
+use Rattle.grammar.specs.declared.entry.Entry.{Entry}
 use Rattle.grammar.specs.Rule.{done, reads}
 use Rattle.grammar.specs.Plan.{size_in, rule_in}
 use Rattle.grammar.specs.kinds.Cons.{cons as cons_kind}
@@ -16,7 +17,7 @@ use Rattle.walk.specs.Plan.{Reading}
 use Rattle.taking.specs.Took.{Taken, TakenBy}
 use Rattle.taking.proofs.Takes.{part_stops, two_stays, two_big, two_number}
 
-module _ (plan p : List ℕ) (a b left off : ℕ) {row : List ℕ} {at e x : ℕ} (h : Taken (2 ^ 62 + (201 - left)) (run (rule_in plan p) left off a) row at e x) where
+module _ (plan : List Entry) (p : List ℕ) (a b left off : ℕ) {row : List ℕ} {at e x : ℕ} (h : Taken (2 ^ 62 + (201 - left)) (run (rule_in plan p) left off a) row at e x) where
   abbrev go : ℕ → ℕ → ℕ → List ℕ → Read
   go = run (rule_in plan p) left
 

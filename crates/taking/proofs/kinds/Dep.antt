@@ -13,6 +13,7 @@ use borrow.Author.Tests.{ltb-true, ltb-false}
 use Rattle.numbers.specs.Dep
 use Rattle.numbers.specs.Joined.{capped, word_of}
 use Rattle.lists.proofs.Order.{le_or_lt}
+use Rattle.grammar.specs.declared.entry.Entry.{Entry}
 use Rattle.grammar.specs.Rule.{Tree, done, reads}
 use Rattle.grammar.specs.Plan.{size_in, rule_in}
 use Rattle.grammar.specs.Seconds.{firsts}
@@ -27,7 +28,7 @@ use Rattle.taking.specs.Took.{Taken, TakenBy}
 use Rattle.taking.proofs.Cells.{seen_row}
 use Rattle.taking.proofs.Takes.{part_stops, two_stays, two_number}
 
-module _ {plan p : List ℕ} {a b : ℕ} (d : Choosing plan p a b) (left off : ℕ) {row : List ℕ} {at e x : ℕ}
+module _ {plan : List Entry} {p : List ℕ} {a b : ℕ} (d : Choosing plan p a b) (left off : ℕ) {row : List ℕ} {at e x : ℕ}
     (h : Taken (2 ^ 62 + (201 - left)) (run (rule_in plan p) left off a) row at e x) where
   abbrev go : ℕ → ℕ → ℕ → List ℕ → Read
   go = run (rule_in plan p) left

@@ -12,6 +12,7 @@ use Rattle.numbers.specs.Except
 use Rattle.numbers.specs.Joined.{capped, word_of}
 use Rattle.numbers.proofs.except.SplitJoin as Excepts
 use Rattle.lists.proofs.Order.{le_or_lt}
+use Rattle.grammar.specs.declared.entry.Entry.{Entry}
 use Rattle.grammar.specs.Rule.{Tree, done, fails}
 use Rattle.grammar.specs.Plan.{rule_in}
 use Rattle.grammar.specs.kinds.Except.{except as except_kind}
@@ -21,7 +22,7 @@ use Rattle.taking.specs.Took.{Taken, TakenBy}
 use Rattle.taking.proofs.Cells.{taken_large, taken_number, taken_fails}
 use Rattle.taking.proofs.Takes.{part_stops, part_then}
 
-module _ (plan p : List ℕ) (a b left off : ℕ) {row : List ℕ} {at e x : ℕ} (h : Taken (2 ^ 62 + (201 - left)) (run (rule_in plan p) left off a) row at e x) where
+module _ (plan : List Entry) (p : List ℕ) (a b left off : ℕ) {row : List ℕ} {at e x : ℕ} (h : Taken (2 ^ 62 + (201 - left)) (run (rule_in plan p) left off a) row at e x) where
   abbrev go : ℕ → ℕ → ℕ → List ℕ → Read
   go = run (rule_in plan p) left
 

@@ -15,6 +15,7 @@ use Rattle.numbers.proofs.Tests.{pick_by}
 use Rattle.numbers.specs.Joined.{limit, capped, word_of}
 use Rattle.numbers.specs.declared.or.Part.TheVariants.{First, Second}
 use Rattle.numbers.proofs.or.SplitJoin as Ors
+use Rattle.grammar.specs.declared.entry.Entry.{Entry}
 use Rattle.grammar.specs.Rule.{Tree, done, fails, reads}
 use Rattle.grammar.specs.Plan.{size_in, rule_in}
 use Rattle.grammar.specs.kinds.Below.{below_rule}
@@ -34,7 +35,7 @@ tag_inside off h l = (h (λ o i q cs. wrong NotACase)).inside l
 pub tag_none : (x : ℕ) → (x ≤ 2 ^ 63 → x < 2) → 2 ≤ x → 2 ^ 63 < x
 tag_none x f l = ⊎_elim (λ h. absurd (omega (arith, f h))) (λ h. h) (le_or_lt x (2 ^ 63))
 
-module _ (plan p : List ℕ) (a b left off : ℕ) {row : List ℕ} {at e x : ℕ}
+module _ (plan : List Entry) (p : List ℕ) (a b left off : ℕ) {row : List ℕ} {at e x : ℕ}
     (h : (go : ℕ → ℕ → ℕ → List ℕ → Read) → Taken limit (follow go off (below_rule 2).tree) row at e x) where
   abbrev go : ℕ → ℕ → ℕ → List ℕ → Read
   go = run (rule_in plan p) left

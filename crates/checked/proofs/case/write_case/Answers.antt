@@ -1,16 +1,17 @@
 -- `checked::case::write_case` writes once nothing but 12 can refuse the number: where every case fits, or where the first pass says so.
 -- Assumes nothing.
+use borrow.Author.Rules.{rules}
 use Rattle.checked.proofs.Fitting.{settled_cells, settled_sure, placed, placed_not}
 use Rattle.checked.proofs.case.write_case.Goals as goal
+use Rattle.checked.proofs.case.write_case.Goals.{then-not-sure+in_ok-decided, else-not-sure}
 
-pub returns-then-sure : goal.returns-then-sure
-returns-then-sure c =
-    search (placed, settled_sure, c.sure.ensures c.if-sure.true)
+pub returns-in_err-decided : goal.returns-in_err-decided
+returns-in_err-decided c =
+    search (placed_not, rules)
 
-pub returns-in-Cells : goal.returns-in-Cells
-returns-in-Cells c =
-    search (placed, settled_cells)
-
-pub returns-in-Not : goal.returns-in-Not
-returns-in-Not c =
-    search (placed_not)
+pub returns : goal.returns
+returns c =
+    elim c.if-not-sure.branch [
+      | then-not-sure+in_ok-decided w ↦ search (placed, settled_cells, rules)
+      | else-not-sure w ↦ search (placed, settled_sure, rules)
+    ]

@@ -1,5 +1,6 @@
 -- `checked::decided::decided` refuses by 12, and then by what the walk met.
 -- Assumes nothing.
+use mathlib.Core.Path.{sym, ◌∙◌}
 use native.Mathlib.Omega.{arith}
 use Rattle.walk.proofs.Nodes.{in_plan}
 use Rattle.walk.proofs.Rooms.{left_within}
@@ -31,7 +32,7 @@ tally-requires c =
 
 pub fit_of-requires : goal.fit_of-requires
 fit_of-requires c =
-    left_within _ c.tally.ensures
+    λ k e. left_within _ (sym e ∙ c.tally.ensures)
 
 pub returns-then-asked : goal.returns-then-asked
 returns-then-asked c =

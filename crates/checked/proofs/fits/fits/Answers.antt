@@ -1,5 +1,6 @@
 -- `checked::fits::fits` refuses by 12, and then by what the walk met, over a buffer.
 -- Assumes nothing.
+use mathlib.Core.Path.{sym, ◌∙◌}
 use native.Mathlib.Omega.{arith}
 use Rattle.walk.proofs.Nodes.{in_plan, raised_zero}
 use Rattle.walk.proofs.Rooms.{left_within}
@@ -35,7 +36,7 @@ lay-rest-requires c =
 
 pub fit_of-requires : goal.fit_of-requires
 fit_of-requires c =
-    λ l. omega (arith, left_within _ c.lay-rest.ensures.is l, lent_long c.args.out.now c.room_for-most.ensures)
+    λ k e. omega (arith, left_within _ (sym e ∙ c.lay-rest.ensures.is), lent_long c.args.out.now c.room_for-most.ensures)
 
 pub shape_of-out-then-asked : goal.shape_of-out-then-asked
 shape_of-out-then-asked c =

@@ -22,16 +22,16 @@ pub returns-then-next-cells : goal.returns-then-next-cells
 returns-then-next-cells c =
     rw c.if-whole.true (search (stood_over))
 
-pub returns-then-word-lt-LARGEST : goal.returns-then-word-lt-LARGEST
-returns-then-word-lt-LARGEST c =
+pub returns-then-word-ge-LARGEST : goal.returns-then-word-ge-LARGEST
+returns-then-word-ge-LARGEST c =
     let none : (length c.args.cells.now ≤ c.args.at + c.take-word.new.at) ⊎ (c.args.whole ≡ false) =
     elim c.if-whole.branch [ then-whole+else-next-cells w ↦ inl w.if-next-cells.false | else-whole w ↦ inr w.if-whole.false ]
     in
-    search (stood_number)
+    search (stood_large)
 
 pub returns : goal.returns
 returns c =
     let none : (length c.args.cells.now ≤ c.args.at + c.take-word.new.at) ⊎ (c.args.whole ≡ false) =
     elim c.if-whole.branch [ then-whole+else-next-cells w ↦ inl w.if-next-cells.false | else-whole w ↦ inr w.if-whole.false ]
     in
-    search (stood_large)
+    search (stood_number)

@@ -1,42 +1,25 @@
 -- `checked::prepared::prepare` is the whole check, in its order.
 -- Assumes nothing.
 use borrow.Author.Rules.{rules}
-use native.Mathlib.Omega.{arith}
-use Rattle.grammar.proofs.Tests.{tests}
-use Rattle.checked.proofs.Opens.{prepared_length, prepared_fault, prepared_ready, prepared_cycles}
+use Rattle.checked.proofs.Opens.{lengths_are, prepared_length, prepared_fault, prepared_ready, prepared_cycles}
 use Rattle.checked.proofs.prepared.prepare.Goals as goal
 
-pub returns-then-table-count : goal.returns-then-table-count
-returns-then-table-count c =
-    prepared_length _ _ _ (search tests)
+pub returns-then-not-lengths_fit : goal.returns-then-not-lengths_fit
+returns-then-not-lengths_fit c =
+    search (prepared_length, rules)
 
-pub returns-then-count-lt1 : goal.returns-then-count-lt1
-returns-then-count-lt1 c =
-    prepared_length _ _ _ (search tests)
-
-pub returns-then-count-gt-MOST_NODES : goal.returns-then-count-gt-MOST_NODES
-returns-then-count-gt-MOST_NODES c =
-    prepared_length _ _ _ (search tests)
-
-pub returns-then-pool-gt-MOST_WORDS : goal.returns-then-pool-gt-MOST_WORDS
-returns-then-pool-gt-MOST_WORDS c =
-    prepared_length _ _ _ (search tests)
-
-pub weigh_all-v-requires : goal.weigh_all-v-requires
-weigh_all-v-requires c =
-    record {
-      table_len = omega arith;
-      plan_value = (c.requires.clear, c.requires.long (omega arith));
-    }
+pub weigh_all-requires : goal.weigh_all-requires
+weigh_all-requires c =
+    let l = lengths_are c.args.table.now c.args.pool.now c.if-not-lengths_fit.ensures in record { table_len = l.0; plan_value = (c.requires.clear, c.requires.long l.2) }
 
 pub judge-requires : goal.judge-requires
 judge-requires c =
-    prepared_ready c.weigh_all-v.ensures (search rules) c.in-Accepted.is
+    prepared_ready c.weigh_all.ensures (lengths_are _ _ c.if-not-lengths_fit.ensures) c.in_ok-weigh_all.was
 
-pub returns-in-Refused : goal.returns-in-Refused
-returns-in-Refused c =
-    search (prepared_fault, rules)
+pub returns-in_err-weigh_all : goal.returns-in_err-weigh_all
+returns-in_err-weigh_all c =
+    search (prepared_fault, lengths_are, rules)
 
-pub returns-in-Accepted : goal.returns-in-Accepted
-returns-in-Accepted c =
-    search (prepared_cycles, rules)
+pub returns : goal.returns
+returns c =
+    prepared_cycles c.weigh_all.ensures (lengths_are _ _ c.if-not-lengths_fit.ensures) c.in_ok-weigh_all.was c.requires (search rules) c.judge.ensures

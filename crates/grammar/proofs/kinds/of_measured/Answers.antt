@@ -3,12 +3,12 @@
 use Rattle.grammar.specs.Plan.{weighed_of}
 use Rattle.grammar.proofs.kinds.of_measured.Goals as goal
 
-pub returns-in-Of : goal.returns-in-Of
+pub returns-in-Some : goal.returns-in-Some
 unfolding weighed_of
-returns-in-Of c =
-    rw c.in-Of.is
+returns-in-Some c =
+    rw c.in-Some.is
 
-pub returns-in-Past : goal.returns-in-Past
+pub returns-in-None : goal.returns-in-None
 unfolding weighed_of
-returns-in-Past c =
-    rw c.in-Past.is
+returns-in-None c =
+    rw c.in-None.is

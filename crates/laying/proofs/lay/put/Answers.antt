@@ -7,20 +7,16 @@ use Rattle.laying.proofs.lay.put.Goals as goal
 
 pub returns-then-out-eq0 : goal.returns-then-out-eq0
 returns-then-out-eq0 c =
-    laid_none _ _ c.if-out-eq0.true
+    rw c.stopped.ensures (laid_none _ _ c.if-out-eq0.true)
 
 pub bounds-out-0 : goal.bounds-out-0
 bounds-out-0 c =
     omega (arith, c.if-out-eq0.false)
 
-pub overflow_sub-result : goal.overflow_sub-result
-overflow_sub-result c =
+pub overflow_sub-out : goal.overflow_sub-out
+overflow_sub-out c =
     simp length-set (omega (arith, c.if-out-eq0.false))
-
-pub shape_of-out : goal.shape_of-out
-shape_of-out c =
-    simp length-set
 
 pub returns : goal.returns
 returns c =
-    laid_one _ _ c.if-out-eq0.false c.requires
+    rw c.left.ensures (laid_one _ _ c.if-out-eq0.false c.requires)

@@ -6,12 +6,12 @@ use native.Mathlib.Omega.{arith}
 use borrow.Author.Tests.{lt-ltb, le-ltb}
 use Rattle.numbers.specs.Size.{endless, size_of}
 use Rattle.numbers.specs.Cons.{join}
-use Rattle.numbers.specs.declared.joined.Joined.{Joined}
+use Rattle.std.specs.Prelude.{Option}
 use Rattle.numbers.proofs.cons.Arms.{first_fast, second_fast, both_endless}
 use Rattle.numbers.specs.Joined.{capped}
 use Rattle.numbers.proofs.cons.join.Goals as goal
 
-module _ (i j x y : ℕ) (r : Joined) where
+module _ (i j x y : ℕ) (r : Option ℕ) where
   first : i < 2 ^ 63 → i < j → r ≡ capped (y * i + x) → r ≡ capped (join (size_of i) (size_of j) x y)
   unfolding join
   first h l e = first_fast (λ s t. capped (join s t x y)) i j r h e (rw (lt-ltb i j l) e)
@@ -25,7 +25,7 @@ module _ (i j x y : ℕ) (r : Joined) where
 
 pub returns-then-j-lt-ENDLESS : goal.returns-then-j-lt-ENDLESS
 returns-then-j-lt-ENDLESS c =
-    second _ _ _ _ _ c.if-j-lt-ENDLESS.true c.if-j-i.true c.product_and.ensures
+    second _ _ _ _ _ c.if-j-lt-ENDLESS.true (omega arith) c.product_and.ensures
 
 pub returns-then-j-i : goal.returns-then-j-i
 returns-then-j-i c =
@@ -33,7 +33,7 @@ returns-then-j-i c =
 
 pub returns-then-i-lt-ENDLESS : goal.returns-then-i-lt-ENDLESS
 returns-then-i-lt-ENDLESS c =
-    first _ _ _ _ _ c.if-i-lt-ENDLESS.true c.if-j-i.false c.product_and-then-i-lt-ENDLESS.ensures
+    first _ _ _ _ _ c.if-i-lt-ENDLESS.true (omega arith) c.product_and-then-i-lt-ENDLESS.ensures
 
 pub returns : goal.returns
 returns c =

@@ -1,7 +1,7 @@
 -- `numbers::cons::join_square` is the join of two endless parts, capped. Past the root of 2^62 it is at least its square.
 -- Assumes nothing.
 use mathlib.Core.Path.{◌≡◌, ap, ◌∙◌}
-use Prim.Native.Nat.{ℕ, ◌+◌, ◌*◌, ◌^◌, ◌≤◌, ◌<◌}
+use Prim.Native.Nat.{ℕ, ◌+◌, ◌*◌, ◌^◌, ◌≤◌, ◌<◌, max}
 use native.Mathlib.Nat.{mul-le-mul}
 use native.Mathlib.Omega.{arith}
 use lib.Dec.{ltb}
@@ -28,41 +28,16 @@ module _ (x y : ℕ) where
   unfolding join
   not_less h = rw (le-ltb x y h)
 
-  large_first : 2 ^ 31 < x → limit ≤ join endless endless x y
+  past : 2 ^ 31 < max x y → limit ≤ join endless endless x y
   unfolding join
-  large_first h = pick_by (λ n. limit ≤ n) (ltb x y) (λ e. let l = ltb-true x y e in omega (arith, large y (omega arith))) (λ e. omega (arith, large x h))
+  past h =
+      pick_by (λ n. limit ≤ n) (ltb x y)
+      (λ e. let l = ltb-true x y e in omega (arith, large y (omega arith)))
+      (λ e. let l = ltb-false x y e in omega (arith, large x (omega arith)))
 
-  large_second : 2 ^ 31 < y → limit ≤ join endless endless x y
-  unfolding join
-  large_second h = pick_by (λ n. limit ≤ n) (ltb x y) (λ e. omega (arith, large y h)) (λ e. let l = ltb-false x y e in omega (arith, large x (omega arith)))
-
-pub returns-then-x-gt-ROOT_OF_LARGEST : goal.returns-then-x-gt-ROOT_OF_LARGEST
-returns-then-x-gt-ROOT_OF_LARGEST c =
-    is_big _ (large_first _ _ (omega arith))
-
-pub returns-then-y-gt-ROOT_OF_LARGEST : goal.returns-then-y-gt-ROOT_OF_LARGEST
-returns-then-y-gt-ROOT_OF_LARGEST c =
-    is_big _ (large_second _ _ (omega arith))
-
-pub overflow_mul-y : goal.overflow_mul-y
-overflow_mul-y c =
-    omega (arith, small c.args.y (omega arith))
-
-pub overflow_add-y : goal.overflow_add-y
-overflow_add-y c =
-    omega (arith, small c.args.y (omega arith))
-
-pub overflow_mul-x : goal.overflow_mul-x
-overflow_mul-x c =
-    omega (arith, small c.args.x (omega arith))
-
-pub overflow_add-x : goal.overflow_add-x
-overflow_add-x c =
-    omega (arith, small c.args.x (omega arith))
-
-pub overflow_add-x-else-x-y : goal.overflow_add-x-else-x-y
-overflow_add-x-else-x-y c =
-    omega (arith, small c.args.x (omega arith))
+pub returns-then-max-gt-ROOT_OF_LARGEST : goal.returns-then-max-gt-ROOT_OF_LARGEST
+returns-then-max-gt-ROOT_OF_LARGEST c =
+    is_big _ (past _ _ (omega arith))
 
 pub returns-then-x-y : goal.returns-then-x-y
 returns-then-x-y c =

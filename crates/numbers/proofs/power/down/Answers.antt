@@ -1,14 +1,11 @@
 use native.Mathlib.Omega.{arith}
-use Rattle.numbers.proofs.power.Largest.{word, some, lowered, ends_here}
+use Rattle.numbers.proofs.power.Powers.{pow_le}
+use Rattle.numbers.proofs.power.Near.{some, ends_here}
 use Rattle.numbers.proofs.power.down.Goals as goal
-
-pub loop-r-init : goal.loop-r-init
-loop-r-init c =
-    (c.requires.2, c.requires.3)
 
 pub power-requires : goal.power-requires
 power-requires c =
-    omega (arith, word _ c.requires.0 c.requires.1 _ c.loop-r.invariant.0)
+    (c.requires.1, omega (arith, c.requires.2, pow_le c.args.t c.loop-r.invariant.0))
 
 pub overflow_sub-r : goal.overflow_sub-r
 overflow_sub-r c =
@@ -18,10 +15,6 @@ pub loop-r-smaller : goal.loop-r-smaller
 loop-r-smaller c =
     omega (arith, some _ c.requires.0 c.power.ensures c.loop-r-test.true)
 
-pub loop-r-preserved : goal.loop-r-preserved
-loop-r-preserved c =
-    (omega arith, lowered _ c.requires.0 c.power.ensures c.loop-r-test.true)
-
-pub returns : goal.returns
-returns c =
-    ends_here _ c.requires.0 c.power.ensures c.loop-r-test.false c.loop-r.invariant.1
+pub returns-clause-root : goal.returns-clause-root
+returns-clause-root c =
+    λ h. ends_here _ c.requires.0 c.power.ensures c.loop-r-test.false (c.loop-r.invariant.1 h)

@@ -1,22 +1,26 @@
 -- `numbers::root::step_above` is the root or more, from any guess.
 -- Assumes nothing.
-use Prim.Native.Nat.{ℕ, ◌/◌, ◌<◌, ◌^◌}
-use native.Mathlib.Nat.{div-lt_iff_lt-mul}
+use mathlib.Core.Path.{◌≡◌, refl}
+use mathlib.Core.Bool.{Bool, true, false}
+use Prim.Native.Nat.{ℕ, ◌+◌, ◌*◌, ◌-◌, ◌^◌, ◌<◌, min}
 use native.Mathlib.Omega.{arith}
-use Rattle.numbers.proofs.root.Newton.{step_above_lem, most_above}
+use lib.Dec.{ltb}
+use borrow.Author.Tests.{ltb-true, ltb-false}
+use Rattle.numbers.specs.Root.{Above}
+use Rattle.numbers.proofs.root.Newton.{step_above_lem}
 use Rattle.numbers.proofs.root.step_above.Goals as goal
 
-half : (n r : ℕ) → n < 2 ^ 64 → 1 < r → n / r < 2 ^ 63
-half n r w h = (div-lt_iff_lt-mul {k = r} {x = n} {y = 2 ^ 63} (omega arith)).1 (omega arith)
+-- a word's root is at most 2^32 - 1
+most : (n r : ℕ) → n < 2 ^ 64 → n < (r + 1) * (r + 1) → Above n (min r (2 ^ 32 - 1))
+most n r w h = by (ltb r (2 ^ 32)) refl
+  where
+    by : (q : Bool) → ltb r (2 ^ 32) ≡ q → Above n (min r (2 ^ 32 - 1))
+    by true e = let l = ltb-true r (2 ^ 32) e in let m : min r (2 ^ 32 - 1) ≡ r = omega arith in rw m (record { above = h; word = l })
+    by false e =
+        let l = ltb-false r (2 ^ 32) e in
+        let m : min r (2 ^ 32 - 1) ≡ 2 ^ 32 - 1 = omega arith in
+        rw m (record { above = omega arith; word = omega arith })
 
-pub overflow_add-r : goal.overflow_add-r
-overflow_add-r c =
-    omega (arith, half c.args.n c.args.near c.ranges.n.fits c.requires.0)
-
-pub returns-then-r-gt-MOST : goal.returns-then-r-gt-MOST
-returns-then-r-gt-MOST c =
-    most_above _ c.ranges.n.fits
-
-pub returns-else-r-gt-MOST : goal.returns-else-r-gt-MOST
-returns-else-r-gt-MOST c =
-    record { above = step_above_lem _ _ (omega arith); word = omega arith }
+pub returns : goal.returns
+returns c =
+    rw c.min.ensures (most _ _ c.ranges.n.fits (step_above_lem _ _ (omega arith)))

@@ -1,49 +1,35 @@
--- `numbers::size::product` is the product of two sizes, or past 2^62.
+-- `numbers::size::product` is the product of two sizes, or none past 2^62.
 -- Assumes nothing.
 use mathlib.Core.Path.{◌≡◌}
-use mathlib.Core.Bool.{true, false}
-use Prim.Native.Nat.{ℕ, ◌*◌, ◌/◌, ◌^◌, ◌≤◌, ◌<◌}
-use native.Mathlib.Nat.{zero-mul}
+use Prim.Native.Nat.{ℕ, ◌^◌, ◌<◌}
 use native.Mathlib.Omega.{arith}
-use lib.Dec.{leb}
-use borrow.Author.Tests.{le-leb, lt-leb}
+use borrow.Author.Tests.{lt-leb}
+use Rattle.std.specs.Prelude.{None}
 use Rattle.numbers.proofs.Tests.{tests}
-use Rattle.numbers.proofs.Words.{little, much}
-use Rattle.numbers.specs.Size.{times, size_of, measured}
+use Rattle.numbers.proofs.size.SizeWords.{sized_finite}
+use Rattle.numbers.specs.Size.{finite, times, size_of, measured}
 use Rattle.numbers.proofs.size.product.Goals as goal
+use Rattle.numbers.proofs.size.product.Goals.{then-s-ge-ENDLESS-via-then-s-ge-ENDLESS, then-s-ge-ENDLESS-via-else-s-ge-ENDLESS+then-t-ge-ENDLESS}
 
-fits : (s t : ℕ) → (s ≡ 0 → ⊥) → t ≤ 2 ^ 62 / s → leb (s * t) (2 ^ 62) ≡ true
-fits s t f h = le-leb (s * t) (2 ^ 62) (little (2 ^ 62) s t f h)
-
-passes : (s t : ℕ) → (s ≡ 0 → ⊥) → 2 ^ 62 / s < t → leb (s * t) (2 ^ 62) ≡ false
-passes s t f h = lt-leb (s * t) (2 ^ 62) (much (2 ^ 62) s t f h)
+past : (n : ℕ) → 2 ^ 62 < n → None ≡ measured (finite n)
+unfolding measured
+past n h = rw (lt-leb n (2 ^ 62) h)
 
 pub returns-then-s-ge-ENDLESS : goal.returns-then-s-ge-ENDLESS
 unfolding times size_of measured
 returns-then-s-ge-ENDLESS c =
-    search tests
+    elim c.then-s-ge-ENDLESS.branch [
+      | then-s-ge-ENDLESS-via-then-s-ge-ENDLESS w ↦ search tests
+      | then-s-ge-ENDLESS-via-else-s-ge-ENDLESS+then-t-ge-ENDLESS w ↦ search tests
+    ]
 
-pub returns-then-t-ge-ENDLESS : goal.returns-then-t-ge-ENDLESS
-unfolding times size_of measured
-returns-then-t-ge-ENDLESS c =
-    search tests
-
-pub returns-then-s-eq0 : goal.returns-then-s-eq0
-unfolding times size_of measured
-returns-then-s-eq0 c =
-    search (tests, c.if-s-eq0.true, zero-mul)
-
-pub returns-then-s-t : goal.returns-then-s-t
-unfolding times size_of measured
-returns-then-s-t c =
-    search (tests, passes, c.if-s-eq0.false)
-
-pub overflow_mul-result : goal.overflow_mul-result
-unfolding times size_of measured
-overflow_mul-result c =
-    omega (arith, little (2 ^ 62) _ _ c.if-s-eq0.false c.if-s-t.false)
+pub returns-in_err-checked_mul : goal.returns-in_err-checked_mul
+unfolding times
+returns-in_err-checked_mul c =
+    rw (sized_finite c.args.s c.if-s-ge-ENDLESS.false, sized_finite c.args.t c.if-t-ge-ENDLESS.false, c.from_residual.ensures)
+    (past _ (omega (arith, c.in_err-checked_mul.ensures)))
 
 pub returns : goal.returns
-unfolding times size_of measured
+unfolding times
 returns c =
-    search (tests, fits, c.if-s-eq0.false)
+    rw (sized_finite c.args.s c.if-s-ge-ENDLESS.false, sized_finite c.args.t c.if-t-ge-ENDLESS.false, ← c.in_ok-checked_mul.ensures.1) c.measured.ensures

@@ -1,25 +1,20 @@
--- `numbers::size::sum` is the sum of two sizes, or past 2^62.
+-- `numbers::size::sum` is the sum of two sizes, or none past 2^62.
 -- Assumes nothing.
 use Rattle.numbers.proofs.Tests.{tests}
+use Rattle.numbers.proofs.size.SizeWords.{sized_finite}
 use Rattle.numbers.specs.Size.{plus, size_of, measured}
 use Rattle.numbers.proofs.size.sum.Goals as goal
+use Rattle.numbers.proofs.size.sum.Goals.{then-s-ge-ENDLESS-via-then-s-ge-ENDLESS, then-s-ge-ENDLESS-via-else-s-ge-ENDLESS+then-t-ge-ENDLESS}
 
 pub returns-then-s-ge-ENDLESS : goal.returns-then-s-ge-ENDLESS
 unfolding plus size_of measured
 returns-then-s-ge-ENDLESS c =
-    search tests
-
-pub returns-then-t-ge-ENDLESS : goal.returns-then-t-ge-ENDLESS
-unfolding plus size_of measured
-returns-then-t-ge-ENDLESS c =
-    search tests
-
-pub returns-then-s-t-gt-LARGEST : goal.returns-then-s-t-gt-LARGEST
-unfolding plus size_of measured
-returns-then-s-t-gt-LARGEST c =
-    search tests
+    elim c.then-s-ge-ENDLESS.branch [
+      | then-s-ge-ENDLESS-via-then-s-ge-ENDLESS w ↦ search tests
+      | then-s-ge-ENDLESS-via-else-s-ge-ENDLESS+then-t-ge-ENDLESS w ↦ search tests
+    ]
 
 pub returns : goal.returns
-unfolding plus size_of measured
+unfolding plus
 returns c =
-    search tests
+    rw (sized_finite c.args.s c.if-s-ge-ENDLESS.false, sized_finite c.args.t c.if-t-ge-ENDLESS.false) c.measured.ensures

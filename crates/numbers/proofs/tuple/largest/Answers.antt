@@ -1,35 +1,28 @@
-use mathlib.Core.Path.{◌≡◌}
-use mathlib.Core.List.{List}
-use Prim.Native.Nat.{ℕ, ◌+◌, ◌≤◌, ◌<◌, max}
+-- `numbers::tuple::largest` is the largest part number.
+-- Assumes nothing.
+use mathlib.Core.Path.{◌≡◌, refl, sym, ap, ◌∙◌}
+use mathlib.Core.List.{List, [], ◌∷◌}
+use Prim.Native.Nat.{ℕ, max}
 use native.Mathlib.Omega.{arith}
-use lib.ListN.{length, take, drop, get_or, drop_of_length-le}
+use Rattle.std.specs.Prelude.{unwrap_or}
+use Rattle.std.specs.List.{reduce, fold}
+use Rattle.std.proofs.lemmas.Iterator.Adapters.{option_map_id}
+use Rattle.std.proofs.lemmas.Iterator.{YieldsList-from_slice}
+use Rattle.std.proofs.lemmas.Iterator.Consumers.{YieldsList-from_copied, max_from_yields_List}
 use Rattle.numbers.specs.Tuple.{largest}
-use Rattle.numbers.proofs.tuple.Ranking.{front_long, front_at}
-use Rattle.numbers.proofs.tuple.largest.Goals.{then-r-x, else-r-x}
 use Rattle.numbers.proofs.tuple.largest.Goals as goal
 
-module _ (parts : List ℕ) (t : ℕ) (l : t ≤ 8) (long : length parts ≡ 8) where
-  start : max 0 (largest (drop 0 (take t parts))) ≡ largest (take t parts)
-  start = omega arith
+from : (x : ℕ) (xs : List ℕ) → fold max x xs ≡ max x (largest xs)
+unfolding largest
+from x [] = omega arith
+from x (y ∷ ys) = from (max x y) ys ∙ omega arith
 
-  module _ (i r : ℕ) (e : max r (largest (drop i (take t parts))) ≡ largest (take t parts)) where
-    turn : i < t → {s : ℕ} → s ≡ max r (get_or parts i 0) → max s (largest (drop (i + 1) (take t parts))) ≡ largest (take t parts)
-    unfolding largest
-    turn h k = omega (arith, (rw (front_at t parts (omega arith) i h) at e))
-
-    end : t ≤ i → r ≡ largest (take t parts)
-    unfolding largest
-    end h = omega (arith, (rw (drop_of_length-le (take t parts) {i = i} (omega (arith, front_long t parts (omega arith)))) at e))
-
-pub loop-i-init : goal.loop-i-init
-loop-i-init c =
-    (omega arith, start _ _ c.requires.0 c.requires.1)
-
-pub loop-i-preserved : goal.loop-i-preserved
-loop-i-preserved c =
-    let more = turn _ _ c.requires.0 c.requires.1 _ _ c.loop-i.invariant.1 c.loop-i-test.true in
-    (omega arith, elim c.if-r-x.branch [ then-r-x w ↦ more (omega arith) | else-r-x w ↦ more (omega arith) ])
+most : (xs : List ℕ) → unwrap_or (reduce max xs) 0 ≡ largest xs
+unfolding largest
+most [] = refl
+most (x ∷ xs) = from x xs
 
 pub returns : goal.returns
 returns c =
-    end _ _ c.requires.0 c.requires.1 _ _ c.loop-i.invariant.1 c.loop-i-test.false
+    let e = max_from_yields_List _ _ c.max.ensures.ran (YieldsList-from_copied (YieldsList-from_slice c.args.parts.now cc)) in
+    c.unwrap_or.ensures ∙ ap (λ o. unwrap_or o 0) (sym (option_map_id c.max.result) ∙ e) ∙ most c.args.parts.now

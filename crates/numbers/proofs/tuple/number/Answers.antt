@@ -1,79 +1,97 @@
-use mathlib.Core.Path.{◌≡◌}
-use mathlib.Core.List.{List}
-use Prim.Native.Nat.{ℕ, ◌+◌, ◌^◌, ◌≤◌, ◌<◌}
+use mathlib.Core.Path.{◌≡◌, ◌∙◌}
+use mathlib.Core.Bool.{false}
+use mathlib.Core.List.{List, reverse}
+use Prim.Native.Nat.{ℕ, ◌+◌, ◌-◌, ◌≤◌, ◌<◌}
 use native.Mathlib.Omega.{arith}
-use lib.ListN.{length, take}
-use Rattle.numbers.proofs.tuple.Ranking.{Layer, none_ranked, lower_ranked, at_ranked, all_ranked}
-use Rattle.numbers.proofs.tuple.Ranking.{lower, sum_fits, met_fits, lower_fits, at_fits, next_unmet, next_met}
-use Rattle.numbers.specs.Tuple.{largest}
-use Rattle.numbers.proofs.tuple.number.Goals.{then-x-r, else-x-r}
+use lib.ListN.{length, get_or, drop}
+use Rattle.std.proofs.lemmas.List.{get_or-reverse, length-reverse, length_push}
+use Rattle.std.proofs.lemmas.Grind.{get_or_default_zero}
+use Rattle.std.proofs.lemmas.Iterator.Adapters.{YieldsList-from_rev_slice}
+use Rattle.std.proofs.lemmas.Iterator.Consumers.{YieldsList-turn, YieldsList-end}
+use Rattle.numbers.specs.Tuple.{rank}
+use Rattle.numbers.proofs.tuple.Weighing.{both_fit}
+use Rattle.numbers.proofs.tuple.Ranking.{Layer, none_ranked, ranked, all_ranked, lower, sum_fits, met_fits, lower_is, lower_fits, at_is, at_fits}
+use Rattle.numbers.proofs.tuple.number.Goals.{In-Some, In-None, then-x-r, else-x-r}
 use Rattle.numbers.proofs.tuple.number.Goals as goal
 
-layer : {t r : ℕ} {parts : List ℕ} → t ≤ length parts → (r + 1) ^ t < 2 ^ 63 → r ≡ largest (take t parts) → Layer t r parts
-layer few fits is_largest = record { few = few; fits = fits; is_largest = is_largest }
+-- the next of the parts, from the last one on
+turned : (parts : List ℕ) (i x : ℕ) → (i < length (reverse parts)) × (x ≡ get_or (reverse parts) i x)
+    → (i < length parts) × (x ≡ get_or parts (length parts - 1 - i) 0)
+turned parts i x h =
+    let l : i < length parts = rw length-reverse at h.0 in
+    (l, h.1 ∙ get_or-reverse parts i x l ∙ get_or_default_zero parts (length parts - 1 - i) x (omega arith))
 
-pub loop-i-init : goal.loop-i-init
-loop-i-init c =
-    none_ranked _ _ _ (omega arith)
+here : (c : In-Some) → (length c.loop-x.yielded < length c.args.parts.now)
+    × (c.in-Some.x.now ≡ get_or c.args.parts.now (length c.args.parts.now - 1 - length c.loop-x.yielded) 0)
+here c =
+    let road = YieldsList-from_rev_slice c.args.parts.now cc in
+    turned _ _ _ (YieldsList-turn road c.loop-x.yielded _ c.loop-x.yielded_by _ _ c.in-Some.x c.in-Some.is c.next.ensures.steps)
 
-pub overflow_mul-rank_unmet : goal.overflow_mul-rank_unmet
-overflow_mul-rank_unmet c =
-    omega (arith, lower_fits (layer (omega arith) c.requires.1 c.requires.3) c.loop-i.invariant c.loop-i-test.true c.if-x-r.true)
+layer : (c : In-Some) → Layer c.args.r c.args.parts.now
+layer c = record { fits = c.requires.0; is_largest = c.requires.1 }
 
-pub overflow_add-rank_unmet : goal.overflow_add-rank_unmet
-overflow_add-rank_unmet c =
-    omega (arith, lower_fits (layer (omega arith) c.requires.1 c.requires.3) c.loop-i.invariant c.loop-i-test.true c.if-x-r.true)
-
-pub overflow_mul-rank_unmet-else-x-r : goal.overflow_mul-rank_unmet-else-x-r
-overflow_mul-rank_unmet-else-x-r c =
-    omega (arith, at_fits (layer (omega arith) c.requires.1 c.requires.3) c.loop-i.invariant c.loop-i-test.true c.if-x-r.false)
-
-pub overflow_add-rank_unmet-else-x-r : goal.overflow_add-rank_unmet-else-x-r
-overflow_add-rank_unmet-else-x-r c =
-    omega (arith, at_fits (layer (omega arith) c.requires.1 c.requires.3) c.loop-i.invariant c.loop-i-test.true c.if-x-r.false)
-
-pub overflow_mul-rank_met : goal.overflow_mul-rank_met
-overflow_mul-rank_met c =
-    omega (arith, met_fits (layer (omega arith) c.requires.1 c.requires.3) c.loop-i.invariant c.loop-i-test.true)
-
-pub overflow_add-rank_met : goal.overflow_add-rank_met
-overflow_add-rank_met c =
-    omega (arith, met_fits (layer (omega arith) c.requires.1 c.requires.3) c.loop-i.invariant c.loop-i-test.true)
+pub loop-x-init : goal.loop-x-init
+loop-x-init c =
+    none_ranked _ _
 
 pub overflow_mul-unmet : goal.overflow_mul-unmet
 overflow_mul-unmet c =
-    omega (arith, next_unmet (layer (omega arith) c.requires.1 c.requires.3) c.loop-i.invariant c.loop-i-test.true)
+    let d = (goal.at.overflow_mul-unmet c).In-Some in
+    omega (arith, lower_fits (layer d) c.loop-x.invariant (here d).0 (here d).1 c.if-x-r.true)
 
 pub overflow_add-unmet : goal.overflow_add-unmet
 overflow_add-unmet c =
-    omega (arith, next_unmet (layer (omega arith) c.requires.1 c.requires.3) c.loop-i.invariant c.loop-i-test.true)
+    let d = (goal.at.overflow_add-unmet c).In-Some in
+    omega (arith, lower_fits (layer d) c.loop-x.invariant (here d).0 (here d).1 c.if-x-r.true)
 
-pub overflow_mul-met : goal.overflow_mul-met
-overflow_mul-met c =
-    omega (arith, next_met (layer (omega arith) c.requires.1 c.requires.3) c.loop-i.invariant c.loop-i-test.true)
+pub overflow_mul-unmet-else-x-r : goal.overflow_mul-unmet-else-x-r
+overflow_mul-unmet-else-x-r c =
+    let d = (goal.at.overflow_mul-unmet-else-x-r c).In-Some in
+    omega (arith, at_fits (layer d) c.loop-x.invariant (here d).0 (here d).1 c.if-x-r.false)
 
-pub overflow_add-met : goal.overflow_add-met
-overflow_add-met c =
-    omega (arith, next_met (layer (omega arith) c.requires.1 c.requires.3) c.loop-i.invariant c.loop-i-test.true)
+pub overflow_add-unmet-else-x-r : goal.overflow_add-unmet-else-x-r
+overflow_add-unmet-else-x-r c =
+    let d = (goal.at.overflow_add-unmet-else-x-r c).In-Some in
+    omega (arith, at_fits (layer d) c.loop-x.invariant (here d).0 (here d).1 c.if-x-r.false)
 
-pub loop-i-preserved : goal.loop-i-preserved
-loop-i-preserved c =
-    let g = layer (omega arith) c.requires.1 c.requires.3 in
-    let s = c.loop-i.invariant in
-    let k = c.loop-i-test.true in
-    elim c.if-x-r.branch [
-      | then-x-r w ↦ lower_ranked g s k w.if-x-r.true w.rank_unmet-is
-      | else-x-r w ↦ at_ranked g s k w.if-x-r.false w.rank_unmet-is
-    ]
+pub overflow_mul-before : goal.overflow_mul-before
+overflow_mul-before c =
+    let d = (goal.at.overflow_mul-before c).In-Some in
+    omega (arith, met_fits (layer d) c.loop-x.invariant (here d).0 (here d).1)
+
+pub overflow_add-before : goal.overflow_add-before
+overflow_add-before c =
+    let d = (goal.at.overflow_add-before c).In-Some in
+    omega (arith, met_fits (layer d) c.loop-x.invariant (here d).0 (here d).1)
+
+pub and_one-ways-requires : goal.and_one-ways-requires
+and_one-ways-requires c =
+    let d = (goal.at.and_one-ways-requires c).In-Some in
+    both_fit _ _ c.requires.0 _ c.loop-x.invariant.counted (here d).0
+
+pub loop-x-preserved : goal.loop-x-preserved
+loop-x-preserved c =
+    let d = (goal.at.loop-x-preserved c).In-Some in
+    let s = c.loop-x.invariant in
+    let u : c.if-x-r.unmet ≡ rank false c.args.r (drop (length c.args.parts.now - (length c.loop-x.yielded + 1)) c.args.parts.now) = elim c.if-x-r.branch [
+      | then-x-r w ↦ w.unmet-is ∙ lower_is (layer d) s (here d).0 (here d).1 w.if-x-r.true
+      | else-x-r w ↦ w.unmet-is ∙ at_is (layer d) s (here d).0 (here d).1 w.if-x-r.false
+    ] in
+    rw length_push (ranked (layer d) s (here d).0 (here d).1 u c.and_one-ways.ensures)
+
+all : (c : In-None) → length c.args.parts.now ≤ length c.loop-x.yielded
+all c =
+    let e = YieldsList-end (YieldsList-from_rev_slice c.args.parts.now cc) c.loop-x.yielded _ c.loop-x.yielded_by _ _ c.in-None.is c.next.ensures.steps in
+    omega (arith, length-reverse c.args.parts.now, e.1)
 
 pub overflow_sub-result : goal.overflow_sub-result
 overflow_sub-result c =
-    lower (layer (omega arith) c.requires.1 c.requires.3) c.loop-i.invariant
+    lower (record { fits = c.requires.0; is_largest = c.requires.1 }) c.loop-x.invariant
 
 pub overflow_add-result : goal.overflow_add-result
 overflow_add-result c =
-    omega (arith, sum_fits (layer (omega arith) c.requires.1 c.requires.3) c.loop-i.invariant)
+    omega (arith, sum_fits (record { fits = c.requires.0; is_largest = c.requires.1 }) c.loop-x.invariant)
 
 pub returns : goal.returns
 returns c =
-    all_ranked (layer (omega arith) c.requires.1 c.requires.3) c.loop-i.invariant c.loop-i-test.false
+    all_ranked (record { fits = c.requires.0; is_largest = c.requires.1 }) c.loop-x.invariant (all (goal.at.returns c).In-None)

@@ -3,10 +3,10 @@
 use Rattle.printing.proofs.print.Starts.{judge_cases, judge_refused}
 use Rattle.printing.proofs.print.judge.Goals as goal
 
-pub returns-in-Accepted : goal.returns-in-Accepted
-returns-in-Accepted c =
+pub returns-in-Ok : goal.returns-in-Ok
+returns-in-Ok c =
     search judge_cases
 
-pub returns-in-Refused : goal.returns-in-Refused
-returns-in-Refused c =
+pub returns-in-Err : goal.returns-in-Err
+returns-in-Err c =
     search judge_refused

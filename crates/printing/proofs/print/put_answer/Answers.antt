@@ -9,16 +9,16 @@ use Rattle.printing.proofs.print.put_answer.Goals as goal
 
 pub slice_bounds-cells-end : goal.slice_bounds-cells-end
 slice_bounds-cells-end c =
-    omega (arith, written_fits c.write.ensures _ c.in-Done.is)
+    omega (arith, written_fits c.write.ensures _ c.in-Ok.is)
 
 pub slice_bounds-put_case-end : goal.slice_bounds-put_case-end
 slice_bounds-put_case-end c =
-    simp length-take (omega (arith, written_fits c.write.ensures _ c.in-Done.is))
+    simp length-take (omega (arith, written_fits c.write.ensures _ c.in-Ok.is))
 
-pub returns-in-Done : goal.returns-in-Done
-returns-in-Done c =
+pub returns-in-Ok : goal.returns-in-Ok
+returns-in-Ok c =
     search (rules, case_done)
 
-pub returns-in-Refused : goal.returns-in-Refused
-returns-in-Refused c =
+pub returns-in-Err : goal.returns-in-Err
+returns-in-Err c =
     search (rules, case_refused)

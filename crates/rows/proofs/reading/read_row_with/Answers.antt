@@ -1,5 +1,6 @@
 -- `rows::reading::read_row_with` opens, and reads the items.
 -- Assumes nothing.
+use Rattle.std.proofs.lemmas.Result.{err_from_is_err_and}
 use Rattle.checked.proofs.Opens.{opened_reads}
 use Rattle.rows.proofs.Gathering.{items_long}
 use Rattle.rows.proofs.Calls.{got_refused, got_items}
@@ -7,28 +8,21 @@ use Rattle.rows.proofs.reading.read_row_with.Goals as goal
 
 pub read_items-requires : goal.read_items-requires
 read_items-requires c =
-    search (opened_reads)
+    opened_reads c.begin.ensures c.in_ok-begin.was
 
-pub shape_of-numbers-then-cells-le-FEW : goal.shape_of-numbers-then-cells-le-FEW
-shape_of-numbers-then-cells-le-FEW c =
-    search (items_long)
+pub read_items-requires-2 : goal.read_items-requires-2
+read_items-requires-2 c =
+    opened_reads c.begin.ensures c.in_ok-begin.was
+
+pub returns-in_err-begin : goal.returns-in_err-begin
+returns-in_err-begin c =
+    let p = err_from_is_err_and c.from_residual.result c.from_residual.ensures.1 in
+    rw (p.1, p.2) (got_refused c.begin.ensures c.in_err-begin.was)
 
 pub returns-then-cells-le-FEW : goal.returns-then-cells-le-FEW
 returns-then-cells-le-FEW c =
-    search (got_items)
+    got_items c.begin.ensures c.in_ok-begin.was c.read_items.ensures
 
-pub read_items-requires-in-Accepted : goal.read_items-requires-in-Accepted
-read_items-requires-in-Accepted c =
-    search (opened_reads)
-
-pub returns-in-Refused : goal.returns-in-Refused
-returns-in-Refused c =
-    search (got_refused)
-
-pub shape_of-numbers : goal.shape_of-numbers
-shape_of-numbers c =
-    search (items_long)
-
-pub returns-else-cells-le-FEW : goal.returns-else-cells-le-FEW
-returns-else-cells-le-FEW c =
-    search (got_items)
+pub returns : goal.returns
+returns c =
+    got_items c.begin.ensures c.in_ok-begin.was c.read_items-2.ensures

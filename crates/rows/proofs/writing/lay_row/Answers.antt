@@ -1,5 +1,7 @@
 use mathlib.Core.Path.{refl}
 use native.Mathlib.Omega.{arith}
+use Rattle.std.proofs.lemmas.Result.{err_from_is_err_and}
+use Rattle.rows.proofs.Outcomes.{found_ok}
 use Rattle.rows.proofs.WrittenInTurn.{laying_none, laying_long, laying_within, laying_fits, laying_more, laying_left, laying_stops, laying_done}
 use Rattle.rows.proofs.writing.lay_row.Goals as goal
 
@@ -25,24 +27,20 @@ slice_bounds-fits-end c =
 
 pub overflow_add-used : goal.overflow_add-used
 overflow_add-used c =
-    let good = c.well_formed in let long = laying_long _ _ c.loop-items.invariant in
-    omega (arith, laying_fits _ _ c.loop-items.invariant c.loop-items-test.true refl c.fits.ensures c.in-Cells.is)
+    let good = c.well_formed in
+    let long = laying_long _ _ c.loop-items.invariant in
+    let fit = found_ok _ _ c.at_item.ensures c.in_ok-used.was in
+    omega (arith, laying_fits _ _ c.loop-items.invariant c.loop-items-test.true refl c.fits-fit.ensures fit)
 
 pub loop-items-preserved : goal.loop-items-preserved
 loop-items-preserved c =
-    search (laying_more)
+    let fit = found_ok _ _ c.at_item.ensures c.in_ok-used.was in
+    laying_more _ _ c.loop-items.invariant c.loop-items-test.true refl c.fits-fit.ensures fit
 
-pub shape_of-cells-in-Not : goal.shape_of-cells-in-Not
-shape_of-cells-in-Not c =
-    search (laying_left)
-
-pub returns-in-Not : goal.returns-in-Not
-returns-in-Not c =
-    search (laying_stops)
-
-pub shape_of-cells : goal.shape_of-cells
-shape_of-cells c =
-    search (laying_long)
+pub returns-in_err-used : goal.returns-in_err-used
+returns-in_err-used c =
+    let p = err_from_is_err_and c.from_residual.result c.from_residual.ensures.1 in
+    rw (p.1, p.2) (laying_stops _ _ c.loop-items.invariant c.loop-items-test.true refl c.fits-fit.ensures c.at_item.ensures c.in_err-used.was)
 
 pub returns : goal.returns
 returns c =

@@ -13,7 +13,7 @@ overflow_add-at c =
 pub returns-in-Of : goal.returns-in-Of
 returns-in-Of c =
     λ go. any_number c.cell_at.ensures go c.in-Of.is
-    (c.word.ensures ∙ ap word_of c.cap.ensures)
+    (c.unwrap_or.ensures ∙ ap word_of c.cap.ensures)
 
 pub returns-in-Stops : goal.returns-in-Stops
 returns-in-Stops c =

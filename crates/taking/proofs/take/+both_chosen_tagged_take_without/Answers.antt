@@ -7,7 +7,7 @@ use Rattle.grammar.proofs.laws.Below.{below_most}
 use Rattle.grammar.proofs.laws.Pool.{pool_in}
 use Rattle.grammar.proofs.laws.Shift.{shift_small}
 use Rattle.grammar.proofs.laws.Except.{except_small}
-use Rattle.walk.proofs.Nodes.{in_plan, reads_in, known, tree_by, parts_by, checked_by, reads_one, reads_two}
+use Rattle.walk.proofs.Nodes.{reads_in, tree_by, parts_by, checked_by, reads_one, reads_two}
 use Rattle.walk.proofs.Choosing.{choosing, second_place}
 use Rattle.taking.proofs.Calls.{part_first, part_next, visit_part, visit_shift, visit_shape, visit_tagged}
 use Rattle.taking.proofs.Takes.{deep_taken, tree_taken, pass_taken}
@@ -155,65 +155,10 @@ unfolding rules
 take-returns-then-left-eq0 t c =
     deep_taken _ _ _ c.if-left-eq0.true
 
-pub take-overflow_mul-kind : goal.take-overflow_mul-kind
-unfolding rules
-take-overflow_mul-kind t c =
-    let q = in_plan c.requires.reading in omega (arith, q.0, q.1)
-
-pub take-offset_bounds-plan-i : goal.take-offset_bounds-plan-i
-unfolding rules
-take-offset_bounds-plan-i t c =
-    let q = in_plan c.requires.reading in omega (arith, q.0, q.1)
-
-pub take-bounds-plan-i : goal.take-bounds-plan-i
-unfolding rules
-take-bounds-plan-i t c =
-    let q = in_plan c.requires.reading in omega (arith, q.0, q.1)
-
-pub take-overflow_mul-a : goal.take-overflow_mul-a
-unfolding rules
-take-overflow_mul-a t c =
-    let q = in_plan c.requires.reading in omega (arith, q.0, q.1)
-
-pub take-overflow_add-a : goal.take-overflow_add-a
-unfolding rules
-take-overflow_add-a t c =
-    let q = in_plan c.requires.reading in omega (arith, q.0, q.1)
-
-pub take-offset_bounds-plan-i-2 : goal.take-offset_bounds-plan-i-2
-unfolding rules
-take-offset_bounds-plan-i-2 t c =
-    let q = in_plan c.requires.reading in omega (arith, q.0, q.1)
-
-pub take-bounds-plan-i-2 : goal.take-bounds-plan-i-2
-unfolding rules
-take-bounds-plan-i-2 t c =
-    let q = in_plan c.requires.reading in omega (arith, q.0, q.1)
-
-pub take-overflow_mul-b : goal.take-overflow_mul-b
-unfolding rules
-take-overflow_mul-b t c =
-    let q = in_plan c.requires.reading in omega (arith, q.0, q.1)
-
-pub take-overflow_add-b : goal.take-overflow_add-b
-unfolding rules
-take-overflow_add-b t c =
-    let q = in_plan c.requires.reading in omega (arith, q.0, q.1)
-
-pub take-offset_bounds-plan-i-3 : goal.take-offset_bounds-plan-i-3
-unfolding rules
-take-offset_bounds-plan-i-3 t c =
-    let q = in_plan c.requires.reading in omega (arith, q.0, q.1)
-
-pub take-bounds-plan-i-3 : goal.take-bounds-plan-i-3
-unfolding rules
-take-bounds-plan-i-3 t c =
-    let q = in_plan c.requires.reading in omega (arith, q.0, q.1)
-
 pub take-counted-requires : goal.take-counted-requires
 unfolding rules
 take-counted-requires t c = (
-  checked_by c.requires.reading c.in-0.is below_most,
+  checked_by c.requires.reading c.in-Below.is below_most,
   c.requires.roomy.2,
   c.requires.roomy.3,
 )
@@ -228,8 +173,8 @@ unfolding rules
 take-listed-requires t c =
     record {
       b_bound = (
-        (checked_by c.requires.reading c.in-2.is pool_in).0,
-        (checked_by c.requires.reading c.in-2.is pool_in).1,
+        (checked_by c.requires.reading c.in-Pool.is pool_in).0,
+        (checked_by c.requires.reading c.in-Pool.is pool_in).1,
         c.requires.reading.walks.slight,
       );
       at_in_bounds = (c.requires.roomy.2, c.requires.roomy.3);
@@ -241,119 +186,114 @@ take-overflow_add-off t c =
     omega (
       arith,
       c.requires.roomy.1,
-      checked_by c.requires.reading c.in-3.is shift_small,
+      checked_by c.requires.reading c.in-Shift.is shift_small,
     )
 
 pub take-take-requires : goal.take-take-requires
 unfolding rules
 take-take-requires t c =
     visit_shift c.decreases c.if-left-eq0.false
-    _ _ c.requires.roomy (checked_by c.requires.reading c.in-3.is shift_small)
-    (reads_one c.requires.reading (parts_by c.requires.reading c.in-3.is))
+    _ _ c.requires.roomy (checked_by c.requires.reading c.in-Shift.is shift_small)
+    (reads_one c.requires.reading (parts_by c.requires.reading c.in-Shift.is))
 
 pub take-tagged-requires : goal.take-tagged-requires
 unfolding rules
 take-tagged-requires t c =
     visit_tagged c.decreases
-    c.if-left-eq0.false _ _ c.requires.roomy (reads_two c.requires.reading (parts_by c.requires.reading c.in-4.is))
+    c.if-left-eq0.false _ _ c.requires.roomy (reads_two c.requires.reading (parts_by c.requires.reading c.in-Or.is))
 
 pub take-both-requires : goal.take-both-requires
 unfolding rules
 take-both-requires t c =
     visit_shape c.decreases c.if-left-eq0.false
-    _ _ c.requires.roomy (reads_two c.requires.reading (parts_by c.requires.reading c.in-5.is))
+    _ _ c.requires.roomy (reads_two c.requires.reading (parts_by c.requires.reading c.in-Cons.is))
 
 pub take-chosen-requires : goal.take-chosen-requires
 unfolding rules
 take-chosen-requires t c =
     visit_shape c.decreases c.if-left-eq0.false
-    _ _ c.requires.roomy (choosing c.requires.reading c.in-6.is)
+    _ _ c.requires.roomy (choosing c.requires.reading c.in-Dep.is)
 
 pub take-without-requires : goal.take-without-requires
 unfolding rules
 take-without-requires t c =
     visit_shape c.decreases c.if-left-eq0.false
     _ _ c.requires.roomy (
-      reads_one c.requires.reading (parts_by c.requires.reading c.in-7.is),
-      checked_by c.requires.reading c.in-7.is except_small,
+      reads_one c.requires.reading (parts_by c.requires.reading c.in-Except.is),
+      checked_by c.requires.reading c.in-Except.is except_small,
     )
 
-pub take-take-requires-in-8 : goal.take-take-requires-in-8
+pub take-take-requires-in-Fix : goal.take-take-requires-in-Fix
 unfolding rules
-take-take-requires-in-8 t c =
+take-take-requires-in-Fix t c =
     visit_part c.decreases c.if-left-eq0.false
-    _ _ c.requires.roomy (reads_one c.requires.reading (parts_by c.requires.reading c.in-8.is))
+    _ _ c.requires.roomy (reads_one c.requires.reading (parts_by c.requires.reading c.in-Fix.is))
 
-pub take-take-requires-in-9 : goal.take-take-requires-in-9
+pub take-take-requires-in-Again : goal.take-take-requires-in-Again
 unfolding rules
-take-take-requires-in-9 t c =
+take-take-requires-in-Again t c =
     visit_part c.decreases c.if-left-eq0.false
-    _ _ c.requires.roomy (reads_one c.requires.reading (parts_by c.requires.reading c.in-9.is))
+    _ _ c.requires.roomy (reads_one c.requires.reading (parts_by c.requires.reading c.in-Again.is))
 
-pub take-returns-in-0 : goal.take-returns-in-0
+pub take-returns-in-Below : goal.take-returns-in-Below
 unfolding rules
-take-returns-in-0 t c =
+take-returns-in-Below t c =
     tree_taken _ _ _ c.if-left-eq0.false
-    (tree_by c.requires.reading c.in-0.is) (omega arith) (c.counted.ensures.1 _)
+    (tree_by c.requires.reading c.in-Below.is) (omega arith) (c.counted.ensures.1 _)
 
-pub take-returns-in-1 : goal.take-returns-in-1
+pub take-returns-in-Nats : goal.take-returns-in-Nats
 unfolding rules
-take-returns-in-1 t c =
+take-returns-in-Nats t c =
     tree_taken _ _ _ c.if-left-eq0.false
-    (tree_by c.requires.reading c.in-1.is) (omega arith) (c.any.ensures _)
+    (tree_by c.requires.reading c.in-Nats.is) (omega arith) (c.any.ensures _)
 
-pub take-returns-in-2 : goal.take-returns-in-2
+pub take-returns-in-Pool : goal.take-returns-in-Pool
 unfolding rules
-take-returns-in-2 t c =
+take-returns-in-Pool t c =
     tree_taken _ _ _ c.if-left-eq0.false
-    (tree_by c.requires.reading c.in-2.is) (omega arith) (c.listed.ensures _)
+    (tree_by c.requires.reading c.in-Pool.is) (omega arith) (c.listed.ensures _)
 
-pub take-returns-in-3 : goal.take-returns-in-3
+pub take-returns-in-Shift : goal.take-returns-in-Shift
 unfolding rules
-take-returns-in-3 t c =
+take-returns-in-Shift t c =
     pass_taken _ _ _
-    c.if-left-eq0.false (tree_by c.requires.reading c.in-3.is) refl (omega arith) c.take.ensures
+    c.if-left-eq0.false (tree_by c.requires.reading c.in-Shift.is) refl (omega arith) c.take.ensures
 
-pub take-returns-in-4 : goal.take-returns-in-4
+pub take-returns-in-Or : goal.take-returns-in-Or
 unfolding rules
-take-returns-in-4 t c =
+take-returns-in-Or t c =
     tree_taken _ _ _
-    c.if-left-eq0.false (tree_by c.requires.reading c.in-4.is) (omega arith) c.tagged.ensures
+    c.if-left-eq0.false (tree_by c.requires.reading c.in-Or.is) (omega arith) c.tagged.ensures
 
-pub take-returns-in-5 : goal.take-returns-in-5
+pub take-returns-in-Cons : goal.take-returns-in-Cons
 unfolding rules
-take-returns-in-5 t c =
+take-returns-in-Cons t c =
     tree_taken _ _ _
-    c.if-left-eq0.false (tree_by c.requires.reading c.in-5.is) (omega arith) c.both.ensures
+    c.if-left-eq0.false (tree_by c.requires.reading c.in-Cons.is) (omega arith) c.both.ensures
 
-pub take-returns-in-6 : goal.take-returns-in-6
+pub take-returns-in-Dep : goal.take-returns-in-Dep
 unfolding rules
-take-returns-in-6 t c =
+take-returns-in-Dep t c =
     tree_taken _ _ _
-    c.if-left-eq0.false (tree_by c.requires.reading c.in-6.is) (omega arith) c.chosen.ensures
+    c.if-left-eq0.false (tree_by c.requires.reading c.in-Dep.is) (omega arith) c.chosen.ensures
 
-pub take-returns-in-7 : goal.take-returns-in-7
+pub take-returns-in-Except : goal.take-returns-in-Except
 unfolding rules
-take-returns-in-7 t c =
+take-returns-in-Except t c =
     tree_taken _ _ _
-    c.if-left-eq0.false (tree_by c.requires.reading c.in-7.is) (omega arith) c.without.ensures
+    c.if-left-eq0.false (tree_by c.requires.reading c.in-Except.is) (omega arith) c.without.ensures
 
-pub take-returns-in-8 : goal.take-returns-in-8
+pub take-returns-in-Fix : goal.take-returns-in-Fix
 unfolding rules
-take-returns-in-8 t c =
+take-returns-in-Fix t c =
     pass_taken _ _ _ c.if-left-eq0.false
-    (tree_by c.requires.reading c.in-8.is) (sym (add-zero _)) (omega arith) c.take-in-8.ensures
+    (tree_by c.requires.reading c.in-Fix.is) (sym (add-zero _)) (omega arith) c.take-in-Fix.ensures
 
-pub take-returns-in-9 : goal.take-returns-in-9
+pub take-returns-in-Again : goal.take-returns-in-Again
 unfolding rules
-take-returns-in-9 t c =
+take-returns-in-Again t c =
     pass_taken _ _ _ c.if-left-eq0.false
-    (tree_by c.requires.reading c.in-9.is) (sym (add-zero _)) (omega arith) c.take-in-9.ensures
-
-pub take-returns-in_default : goal.take-returns-in_default
-unfolding rules
-take-returns-in_default t c =
-    absurd (known c.requires.reading c.in_default.in_default-own.rest)
+    (tree_by c.requires.reading c.in-Again.is) (sym (add-zero _)) (omega arith) c.take-in-Again.ensures
 
 pub without-take-m-requires : goal.without-take-m-requires
 unfolding rules

@@ -1,9 +1,0 @@
--- `grammar::kinds::or::join` is the join of an or, in one word.
--- Assumes nothing.
-use mathlib.Core.Path.{ap, ◌∙◌}
-use Rattle.numbers.specs.Joined.{word_of}
-use Rattle.grammar.proofs.kinds.or.join.Goals as goal
-
-pub returns : goal.returns
-returns c =
-    c.word.ensures ∙ ap word_of c.turned.ensures
