@@ -1,12 +1,12 @@
 // One number on a checked table: "12, then the walk with the room left". This is the second pass, which writes.
 ghost use Rattle.std.specs.Prelude.{◌≡◌, ◌^◌, ◌<◌, ◌≤◌};
 ghost use Rattle.numbers.specs.Size.{size_of};
-ghost use Rattle.grammar.specs.Plan.{rule_in};
 ghost use Rattle.walk.specs.Laid.{left_of};
-ghost use Rattle.walk.specs.Plan.{Reading};
 ghost use Rattle.checked.specs.Fits.{room_for, outcome, FitOver};
 ghost use Rattle.checked.specs.Fits.{asked as is_asked};
+ghost use Rattle.checked.specs.Opened.{rules};
 
+use super::opened::Opened;
 use grammar::refusal::Refusal;
 use laying::lay::lay;
 use laying::tally::TOO_DEEP;
@@ -21,17 +21,14 @@ pub const MOST_CELLS: usize = 65536;
 pub fn room_for(room: usize) -> usize
     ensures { result ≡ room_for room }
 {
-    if room < MOST_CELLS { room } else { MOST_CELLS }
+    room.min(MOST_CELLS)
 }
 
 // "Numbers asked for are below 2^62 and below the size."
 pub fn asked(size: u64, number: u64) -> bool
     ensures { result ≡ is_asked (size_of size) number }
 {
-    if number < LARGEST {
-        return number < size;
-    }
-    false
+    number < LARGEST && number < size
 }
 
 // What a walk hands back, as an answer: the count of the case's cells, or "of 13 and 14 the one first met".
@@ -48,22 +45,17 @@ pub fn fit_of(most: usize, rest: usize) -> Result<usize, Refusal>
     Err(Refusal::NoRoom)
 }
 
-// It decides as the first pass does by the buffer's length, and writes what fits.
-pub fn fits<'a>(
-    pool: &'a [u64],
-    plan: &'a [u64],
-    start: usize,
-    number: u64,
-    out: &mut [u64],
-) -> Result<usize, Refusal>
-    requires { Reading plan.now pool.now start }
-    ensures { FitOver (rule_in plan.now pool.now) start number out.old out.new result }
-{
-    if asked(plan[4 * start + 3], number) {
-        let most = room_for(out.len());
-        let lent = [pool, plan];
-        let rest = lay(&lent, start, number, 0, DEPTH, &mut out[..most]);
-        return fit_of(most, rest);
+impl<'a> Opened<'a> {
+    // It decides as the first pass does by the buffer's length, and writes what fits.
+    pub fn fits(&self, number: u64, out: &mut [u64]) -> Result<usize, Refusal>
+        ensures { FitOver (rules self.now) self.now.start number out.old out.new result }
+    {
+        if asked(self.plan[4 * self.start + 3], number) {
+            let most = room_for(out.len());
+            let lent = [self.pool, self.plan];
+            let rest = lay(&lent, self.start, number, 0, DEPTH, &mut out[..most]);
+            return fit_of(most, rest);
+        }
+        Err(Refusal::NoSuchNumber)
     }
-    Err(Refusal::NoSuchNumber)
 }

@@ -12,11 +12,11 @@ const MOST_WORDS: usize = 4096;
 
 // The words of a table of 16 nodes: up to here a call takes a plan of 16 rows, else one of 256, four words
 // a row. A small table does not pay for the largest.
-pub const SMALL: usize = 48;
+const SMALL: usize = 48;
 
-pub const SMALL_PLAN: usize = 64;
+const SMALL_PLAN: usize = 64;
 
-pub const PLAN: usize = 1024;
+const PLAN: usize = 1024;
 
 // "word and pool lengths"
 fn lengths_fit(table: &[u64], pool: &[u64]) -> bool
@@ -39,4 +39,21 @@ pub fn prepare(table: &[u64], pool: &[u64], plan: &mut [u64]) -> Result<(), Refu
     }
     weigh_all(table, pool, plan)?;
     cycles::judge(table, pool, plan)
+}
+
+// A call that is lent a plan for the table, beside a buffer of its own.
+pub fn with_plan<R, F: FnOnce(&mut [u64], &mut [u64]) -> R>(
+    table: &[u64],
+    lent: &mut [u64],
+    call: F,
+) -> R
+    requires { (p : _) (l : _) → Blank table.now p.now → F.pre call p l }
+    ensures { (p : _) × (q : _) × (l : _) × (m : _) × Blank table.now p.now × (l.now ≡ lent.old) × (m.now ≡ lent.new) × F.post call p l result q m }
+{
+    if table.len() <= SMALL {
+        let mut plan = [0u64; SMALL_PLAN];
+        return call(&mut plan, lent);
+    }
+    let mut plan = [0u64; PLAN];
+    call(&mut plan, lent)
 }

@@ -7,8 +7,7 @@ ghost use Rattle.printing.specs.Input.{pool_line, one_at, with_start, with_pool}
 ghost use Rattle.printing.specs.Printed.{case_line, told, printed, Judges, Answers};
 
 use super::input::{INPUT_ROOM, One, POOL_WORDS, TABLE_WORDS, one_at, one_each};
-use checked::opened::begin;
-use checked::prepared::PLAN;
+use checked::opened::with_opened;
 use grammar::refusal::{Refusal, Refused, number_of};
 use texts::line::{Line, numbers_at};
 use texts::page::{PAGE_BYTES, flush, put_line, put_number, put_text};
@@ -106,8 +105,7 @@ fn judge(
 fn start(table: &[u64], pool: &[u64], start: usize) -> Result<(), Refused>
     ensures { result ≡ opening table.now pool.now start }
 {
-    let mut plan = [0u64; PLAN];
-    begin(table, pool, &mut plan, start)
+    with_opened(table, pool, start, &mut [], |_, _| ())
 }
 
 // A line for each number from a place on.
