@@ -7,8 +7,7 @@ mod writing;
 ghost use Rattle.std.specs.Prelude.{◌≡◌};
 ghost use Rattle.grammar.specs.Verdict.{answer, check_says};
 
-use checked::prepared::{PLAN, SMALL, SMALL_PLAN, prepare};
-use grammar::entry::BLANK;
+use checked::prepared::{prepare, with_plan};
 pub use grammar::refusal::{Refusal, Refused, number_of};
 pub use reading::read;
 pub use writing::write;
@@ -17,10 +16,5 @@ pub use writing::write;
 pub fn check(table: &[u64], pool: &[u64]) -> Result<(), Refused>
     ensures { answer result ≡ check_says table.now pool.now }
 {
-    if table.len() <= SMALL {
-        let mut plan = [BLANK; SMALL_PLAN];
-        return prepare(table, pool, &mut plan);
-    }
-    let mut plan = [BLANK; PLAN];
-    prepare(table, pool, &mut plan)
+    with_plan(table, &mut [], |plan, _| prepare(table, pool, plan))
 }

@@ -1,23 +1,22 @@
--- What the code of `decided`, `fits` and `write_case` has found, in the words of their promises.
---   asked_large, asked_small   the test of a number, as the code makes it
+-- What the code of `decided`, `fits` and `write` has found, in the words of their promises.
+--   asked_small                the test of a number, as the code makes it
 --   decided_12, fits_12        refused before the walk
 --   visits_of, may             else the walk may be made
 --   lent_long                  the front of a buffer that is lent to it
 --   decided_walk, fits_walk    by what the walk met, without a buffer and over the front of one
 --   settled_cells, settled_sure   what is settled before the buffer is written: by the first pass, or since every case fits
---   placed, placed_not         by what the second pass made of the buffer, or by the first pass's refusal
---   placed_long                a buffer keeps its length
+--   placed                     by what the second pass made of the buffer
 -- Assumes nothing.
 use mathlib.Core.Path.{◌≡◌, refl, sym, subst, ap, ◌∙◌}
-use mathlib.Core.Bool.{Bool, true, false, and-true, and-false, false≢true}
+use mathlib.Core.Bool.{Bool, true, false, and-true, false≢true}
 use mathlib.Core.List.{List, [], ◌∷◌, ◌++◌}
 use Prim.Native.Nat.{ℕ, zero, suc, ◌+◌, ◌*◌, ◌^◌, ◌≤◌, ◌<◌}
 use native.Mathlib.Nat.{not-suc-le-zero, le_of_suc-le-suc}
 use native.Mathlib.Omega.{arith}
 use lib.Dec.{ltb}
 use lib.ListN.{length, get_or, take, drop, length-take, length-drop, length-append, take-append-drop}
-use borrow.Author.Tests.{lt-ltb, le-ltb}
-use Rattle.numbers.specs.Size.{Size, size_of, below, Below}
+use borrow.Author.Tests.{lt-ltb}
+use Rattle.numbers.specs.Size.{Size, size_of, Below}
 use Rattle.numbers.proofs.size.SizeWords.{by_size}
 use Rattle.grammar.specs.declared.refusal.Refusal.{Refusal}
 use Rattle.grammar.specs.declared.refusal.Refusal.TheVariants.{NoSuchNumber}
@@ -27,7 +26,6 @@ use Rattle.walk.specs.Walk.{walk, cells, depth}
 use Rattle.walk.specs.Room.{RoomLeft, tallied}
 use Rattle.walk.specs.Laid.{Laid}
 use Rattle.lists.specs.Filled.{over}
-use Rattle.lists.proofs.Fills.{over_long}
 use Rattle.walk.proofs.Rooms.{tally_count}
 use Rattle.walk.specs.Plan.{Visits, Reading}
 use Rattle.laying.specs.Sure.{Sure}
@@ -37,9 +35,6 @@ use Rattle.checked.proofs.Fitted.{was_asked, cells_left, fitted_is}
 
 -- ---- a number against the word of a size
 module _ (w n : ℕ) where
-  pub asked_large : 2 ^ 62 ≤ n → false ≡ asked (size_of w) n
-  asked_large h = rw (le-ltb n (2 ^ 62) h) (sym (and-false (below n (size_of w))))
-
   pub asked_small : n < 2 ^ 62 → ltb n w ≡ asked (size_of w) n
   asked_small h = by_size (λ s. ltb n w ≡ asked s n) w (λ f. rw (lt-ltb n (2 ^ 62) h) (sym (and-true (ltb n w))))
       (λ f. rw (lt-ltb n (2 ^ 62) h) (lt-ltb n w (omega arith)))
@@ -143,10 +138,3 @@ module _ {g : ℕ → Rule} {i n : ℕ} {old : List ℕ} where
       by : (r : Fit) → f ≡ r → last ≡ places f (case_cells g i n) old
       by (Ok k) q = rw q (e.holds k q)
       by (Err r) q = rw q (e.kept (s r (sym e.is ∙ q)))
-
-  pub placed_not : {f : Fit} → f ≡ fitted g i n (length old) → {r : Refusal} → f ≡ Err r → Placed g i n old old (Err r)
-  placed_not e q = record { is = sym q ∙ e; holds = refl }
-
-  pub placed_long : {last : List ℕ} {f : Fit} → Placed g i n old last f → length last ≡ length old
-  placed_long {f = Ok k} w = over_long (case_cells g i n) old w.holds
-  placed_long {f = Err r} w = ap length w.holds

@@ -4,7 +4,7 @@
 --   prepared_cycles   the nodes pass, and the verdict is that on cycles
 --   opens_refused     the table is refused
 --   opens_11          the start is not in the table
---   opens_ready, opened_reads   the plan may be walked from the start
+--   opens_reads, opens_ready   the plan may be walked from the start
 --   judged_past       what an answer says that no refusal is
 --   opens, opened_means   `begin` accepts exactly an accepted table and a start in it
 -- Assumes nothing.
@@ -23,9 +23,8 @@ use Rattle.grammar.specs.Sizes.{size_at, scan, passed, sizes}
 use Rattle.grammar.specs.Checked.{Checked}
 use Rattle.grammar.specs.Plan.{size_in, Planned, WeighedBy, AllWeighed, Ready}
 use Rattle.grammar.specs.Verdict.{cycles, settled, verdict, answer, check_says}
-use Rattle.grammar.specs.declared.refusal.Refusal.{Refusal}
 use Rattle.grammar.specs.declared.refusal.Refusal.TheVariants.{Length, NoSuchStart}
-use Rattle.std.specs.Prelude.{Result, Ok, Err}
+use Rattle.std.specs.Prelude.{Ok, Err}
 use Rattle.grammar.specs.Refusals.{Verdict, accepted, refused}
 use Rattle.grammar.specs.declared.refusal.Refused.{Refused}
 use Rattle.grammar.proofs.Checked.{checked_of}
@@ -33,7 +32,8 @@ use Rattle.grammar.proofs.Values.{answer_one}
 use Rattle.planning.proofs.Plans.{plan_sizes}
 use Rattle.walk.specs.Plan.{Reading}
 use Rattle.checked.specs.Prepared.{Blank, Prepared}
-use Rattle.checked.specs.Opening.{judged, opening, Opens}
+use Rattle.checked.specs.Opening.{judged, opening}
+use Rattle.checked.specs.Opened.{Opens}
 use Rattle.checked.proofs.Walking.{same_rules, stands_at}
 
 -- ---- the check
@@ -98,24 +98,22 @@ module _ {t p plan : List ℕ} {v : Verdict} (h : Prepared t p plan v) (i : ℕ)
   unfolding check_says
   is = answer_one v (verdict t p) h.says
 
-  pub opens_refused : {e : Refused} → v ≡ Err e → Opens t p plan i (Err e)
+  pub opens_refused : {e : Refused} → v ≡ Err e → Opens t p i (Err e)
   unfolding opening
-  opens_refused q = record { is = rw (← is, q); ready = λ a. absurd (refused_not a) }
+  opens_refused q = record { is = rw (← is, q) }
 
   module _ {u : Unit {0}} (e : v ≡ Ok u) where
-    pub opens_11 : nodes t ≤ i → Opens t p plan i (refused NoSuchStart 0)
+    pub opens_11 : nodes t ≤ i → Opens t p i (refused NoSuchStart 0)
     unfolding opening
-    opens_11 l = record { is = rw (← is, e, le-ltb i (nodes t) l); ready = λ a. absurd (refused_not a) }
+    opens_11 l = record { is = rw (← is, e, le-ltb i (nodes t) l) }
 
-    pub opens_ready : i < nodes t → Opens t p plan i accepted
-    unfolding opening
-    opens_ready l = record {
-      is = rw (← is, e, lt-ltb i (nodes t) l);
-      ready = λ a. record { reads = stands_at (h.ready e) l; rules = same_rules (h.ready e) };
-    }
+    module _ (l : i < nodes t) where
+      pub opens_reads : Reading plan p i
+      opens_reads = stands_at (h.ready e) l
 
-pub opened_reads : {t p plan : List ℕ} {i : ℕ} {v : Verdict} {u : Unit {0}} → Opens t p plan i v → v ≡ Ok u → Reading plan p i
-opened_reads h e = (h.ready e).reads
+      pub opens_ready : Opens t p i (Ok (record { pool = p; plan = plan; start = i }))
+      unfolding opening
+      opens_ready = record { is = record { accepts = rw (← is, e, lt-ltb i (nodes t) l); same = same_rules (h.ready e); start = refl } }
 
 -- an answer that no refusal is comes after the verdict
 pub judged_past : {A : Type 0} (refuses : Refused → A) (v : Verdict) {x y : A} → ((r : Refused) → refuses r ≡ y → ⊥)

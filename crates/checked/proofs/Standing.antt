@@ -1,13 +1,14 @@
--- What the code of `case_at` has found, in the words of its promise.
---   within                                  the place after the cells that the walk read
---   stood_why                               by the word that the walk handed back, where it read nothing
---   stood_over, stood_number, stood_large   by cells left over, and then by 16
---   stood                                   what stands at a place, by the answer's constructor
+-- What the code that reads a case has found, in the words of its promises.
+--   within                    the place after the cells that the walk read
+--   walked_not, walked_case   by the word that the walk handed back
+--   numbered_small, numbered_large   "then 16"
+--   front_not, front_case     the case at a place, by what the walk read
+--   whole_not, whole_over, whole_case   the same of all cells
+--   stood                     what stands at a place, by the answer's constructor
 -- Assumes nothing.
 use mathlib.Core.Path.{◌≡◌, refl, sym, subst, ap, ◌∙◌}
-use mathlib.Core.Bool.{Bool, true, false}
-use mathlib.Core.Logic.{◌⊎◌, ⊎_elim}
-use mathlib.Core.List.{List}
+use mathlib.Core.Logic.{⊎_elim}
+use mathlib.Core.List.{List, []}
 use Prim.Native.Nat.{ℕ, ◌+◌, ◌-◌, ◌^◌, ◌≤◌, ◌<◌}
 use native.Mathlib.Omega.{arith}
 use lib.Dec.{leb}
@@ -17,6 +18,7 @@ use borrow.Author.Tests.{lt-ltb, le-ltb}
 use Rattle.lists.proofs.Order.{le_or_lt}
 use Rattle.grammar.specs.declared.refusal.Refusal.{Refusal}
 use Rattle.grammar.specs.declared.refusal.Refusal.TheVariants.{NotACase, NumberTooLarge}
+use Rattle.grammar.specs.Rule.{Rule}
 use Rattle.grammar.specs.Plan.{size_in, rule_in}
 use Rattle.walk.specs.Walk.{cell, walk, depth}
 use Rattle.walk.specs.Room.{most}
@@ -26,7 +28,7 @@ use Rattle.walk.specs.Plan.{Reading}
 use Rattle.walk.proofs.Only.{only}
 use Rattle.walk.proofs.Ends.{walk_some}
 use Rattle.checked.specs.Fits.{room_for}
-use Rattle.checked.specs.Item.{Front, front_of, front, whole_of, whole, standing, StoodBy, Stood}
+use Rattle.checked.specs.Item.{Front, front_of, front, whole_of, whole, numbered, WalkedBy, Walked, StoodBy, Stood}
 use Rattle.checked.specs.declared.item.Item.{Item}
 use Rattle.std.specs.Prelude.{Result, Ok, Err}
 
@@ -34,10 +36,6 @@ take_few : (l : List ℕ) {k : ℕ} → k ≡ room_for (length l) → take k l �
 take_few l {k} e =
     ⊎_elim (λ u. let f : k ≡ length l = omega arith in rw f (take-length l ∙ sym (take_all most l u))) (λ u. let f : k ≡ most = omega arith in rw f)
     (le_or_lt (length l) most)
-
--- ---- what stands at a place, by the answer's constructor
-pub stood : {f : Front} {cells : List ℕ} {at : ℕ} {r k : Result Item Refusal} → Stood f cells at r → r ≡ k → StoodBy f cells at k
-stood {f} {cells} {at} w e = subst (StoodBy f cells at) e w.is
 
 -- ---- the cells that are lent to the walk: as many as a case may have
 module _ (cells : List ℕ) (at : ℕ) {room : ℕ} (f : room ≡ room_for (length cells - at)) where
@@ -50,7 +48,7 @@ module _ (cells : List ℕ) (at : ℕ) {room : ℕ} (f : room ≡ room_for (leng
   row_most : row ≡ take most (drop at cells)
   row_most = take_few (drop at cells) {k = at + room - at} (omega (arith, f, length-drop at cells))
 
-  module _ {plan p : List ℕ} {i : ℕ} (h : Reading plan p i × (at ≤ length cells)) {used word : ℕ}
+  module _ {plan p : List ℕ} {i : ℕ} (h : Reading plan p i) (here : at ≤ length cells) {used word : ℕ}
       (t : Taken (2 ^ 62 + 1) (run (rule_in plan p) depth 0 i) row 0 used word) where
     abbrev walked : Read
     walked = run (rule_in plan p) depth 0 i most (drop at cells)
@@ -58,16 +56,13 @@ module _ (cells : List ℕ) (at : ℕ) {room : ℕ} (f : room ≡ room_for (leng
     took : Took (2 ^ 62 + 1) walked (drop at cells) most used word
     took = t.took (drop at cells) most row_most
 
-    pub stood_why : 2 ^ 63 < word → {r : Refusal} → r ≡ why_of (leb most (length cells - at)) word → (b : Bool)
-        → Stood (standing b (rule_in plan p) i (drop at cells)) cells at (Err r)
-    unfolding front_of whole_of
-    stood_why l {r} g b = record { is = by b took }
+    pub walked_not : 2 ^ 63 < word → {r : Refusal} → r ≡ why_of (leb most (length cells - at)) word → Walked (rule_in plan p) i cells at (Err r)
+    walked_not l {r} g = record { is = by took }
       where
-        by : (b : Bool) → Took (2 ^ 62 + 1) walked (drop at cells) most used word → StoodBy (standing b (rule_in plan p) i (drop at cells)) cells at (Err r)
-        by b (exact s e) = absurd (omega (arith, s))
-        by b (large s m k e) = absurd (omega arith)
-        by true (stops s e) = rw (e, length-drop at cells, g)
-        by false (stops s e) = rw (e, length-drop at cells, g)
+        by : Took (2 ^ 62 + 1) walked (drop at cells) most used word → WalkedBy walked cells at (Err r)
+        by (exact s e) = absurd (omega (arith, s))
+        by (large s m k e) = absurd (omega arith)
+        by (stops s e) = rw (e, length-drop at cells, g)
 
     -- ---- a case that was read
     module _ (u : word ≤ 2 ^ 63) where
@@ -87,32 +82,63 @@ module _ (cells : List ℕ) (at : ℕ) {room : ℕ} (f : room ≡ room_for (leng
       -- a case has at least one cell, so the place moves on
       on : at < at + used
       on =
-          let w = h.0.walks in
+          let w = h.walks in
           let (n, e, _, _) = met in
-          let (b, s) = only (size_in plan) w.count (rule_in plan p) w.good depth 0 i h.0.node most (drop at cells) e in
-          let some = walk_some (size_in plan) w.count (rule_in plan p) w.good depth i n h.0.node b 0 in
+          let (b, s) = only (size_in plan) w.count (rule_in plan p) w.good depth 0 i h.node most (drop at cells) e in
+          let some = walk_some (size_in plan) w.count (rule_in plan p) w.good depth i n h.node b 0 in
           let long : length (walk (rule_in plan p) depth 0 i n) ≡ length s.ws = ap length s.shows ∙ length-map s.ws cell in
           let rest = drop (at + used) cells in
           omega (arith, some, long, ap length s.stands, length-append s.ws rest, length-drop (at + used) cells, length-drop at cells, within)
 
-      pub stood_over : at + used < length cells → Stood (whole (rule_in plan p) i (drop at cells)) cells at (Err NotACase)
-      unfolding whole_of
-      stood_over m = let (n, e, _, _) = met in record { is = rw (e, drop-cons cells (at + used) 0 m) }
+      pub walked_case : Walked (rule_in plan p) i cells at (Ok (record { number = word; next = at + used }))
+      walked_case = let (n, e, x, y) = met in record { is = (n, most - used, e, x, y, on, within) }
 
-      -- ---- no cell is left over where none may be
-      module _ (b : Bool) (none : (length cells ≤ at + used) ⊎ (b ≡ false)) where
-        no_more : standing b (rule_in plan p) i (drop at cells) ≡ front (rule_in plan p) i (drop at cells)
-        unfolding front_of whole_of
-        no_more = ⊎_elim (by b) (λ e. rw e) none
-          where
-            by : (b : Bool) → length cells ≤ at + used → standing b (rule_in plan p) i (drop at cells) ≡ front (rule_in plan p) i (drop at cells)
-            by false k = refl
-            by true k = let (n, e, _, _) = met in rw (e, drop_of_length-le cells {i = at + used} k)
+-- ---- what stands at a place, by what the walk read
+-- "then 16"
+pub numbered_small : (d : Item) → d.number < 2 ^ 62 → numbered d ≡ Ok d
+numbered_small d l = rw (lt-ltb d.number (2 ^ 62) l)
 
-        pub stood_number : word < 2 ^ 62 → Stood (standing b (rule_in plan p) i (drop at cells)) cells at (Ok (record { number = word; next = at + used }))
-        unfolding front_of
-        stood_number l = let (n, e, s, _) = met in record { is = (no_more ∙ rw (e, s l, lt-ltb word (2 ^ 62) l), on, within) }
+pub numbered_large : (d : Item) → 2 ^ 62 ≤ d.number → numbered d ≡ Err NumberTooLarge
+numbered_large d l = rw (le-ltb d.number (2 ^ 62) l)
 
-        pub stood_large : 2 ^ 62 ≤ word → Stood (standing b (rule_in plan p) i (drop at cells)) cells at (Err NumberTooLarge)
-        unfolding front_of
-        stood_large l = let (n, e, _, s) = met in record { is = no_more ∙ rw (e, le-ltb n (2 ^ 62) (s l)) }
+module _ {g : ℕ → Rule} {i : ℕ} {cells : List ℕ} {at : ℕ} {w : Result Item Refusal} (k : Walked g i cells at w) where
+  abbrev run_here : Read
+  run_here = run g depth 0 i most (drop at cells)
+
+  told : {v : Result Item Refusal} → w ≡ v → WalkedBy run_here cells at v
+  told e = subst (WalkedBy run_here cells at) e k.is
+
+  -- ---- whatever stands behind it
+  pub front_not : {x : Refusal} → w ≡ Err x → Stood (front g i (drop at cells)) cells at (Err x)
+  unfolding front_of
+  front_not e = record { is = rw (told e) }
+
+  front_is : {d : Item} → w ≡ Ok d → {f : Front} → f ≡ front_of run_here → {r : Result Item Refusal} → r ≡ numbered d → Stood f cells at r
+  unfolding front_of
+  front_is {d} e {f} q {r} s =
+      let (n, m, c, x, y, lo, hi) = told e in
+      ⊎_elim (λ l. rw (s ∙ numbered_large d l) (record { is = q ∙ rw (c, le-ltb n (2 ^ 62) (y l)) }))
+      (λ l. rw (s ∙ numbered_small d l) (record { is = (q ∙ rw (c, x l, lt-ltb d.number (2 ^ 62) l), lo, hi) })) (le_or_lt (2 ^ 62) d.number)
+
+  pub front_case : {d : Item} → w ≡ Ok d → {r : Result Item Refusal} → r ≡ numbered d → Stood (front g i (drop at cells)) cells at r
+  front_case e = front_is e refl
+
+  -- ---- all cells
+  pub whole_not : {x : Refusal} → w ≡ Err x → Stood (whole g i (drop at cells)) cells at (Err x)
+  unfolding whole_of
+  whole_not e = record { is = rw (told e) }
+
+  pub whole_over : {d : Item} → w ≡ Ok d → d.next < length cells → Stood (whole g i (drop at cells)) cells at (Err NotACase)
+  unfolding whole_of
+  whole_over {d} e m = let (n, q, c, _, _, _, _) = told e in record { is = rw (c, drop-cons cells d.next 0 m) }
+
+  pub whole_case : {d : Item} → w ≡ Ok d → length cells ≤ d.next → {r : Result Item Refusal} → r ≡ numbered d → Stood (whole g i (drop at cells)) cells at r
+  unfolding whole_of front_of
+  whole_case {d} e m =
+      let (n, q, c, _, _, _, _) = told e in
+      let none : drop d.next cells ≡ [] = drop_of_length-le cells {i = d.next} m in
+      front_is e (rw (c, none))
+
+-- by the answer's constructor
+pub stood : {f : Front} {cells : List ℕ} {at : ℕ} {r k : Result Item Refusal} → Stood f cells at r → r ≡ k → StoodBy f cells at k
+stood {f} {cells} {at} w e = subst (StoodBy f cells at) e w.is

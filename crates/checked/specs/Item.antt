@@ -2,10 +2,11 @@
 --   Front     the number and the cells after its case, or the refusal
 --   front     what stands at the front
 --   whole     what all the cells are, as one case
---   standing  one or the other
+--   Walked    what the walk read from a place on, with the place after its cells
+--   numbered  of a number that is read, 16 where it is not below 2^62
 --   Stood     the code's answer, with a place for the cells from there on
 -- Assumes nothing.
-use Rattle.std.specs.Prelude.{◌≡◌, Bool, true, false, List, [], ◌∷◌, ℕ, ◌^◌, ◌≤◌, ◌<◌, ltb, length, drop, Result, Ok, Err}
+use Rattle.std.specs.Prelude.{◌≡◌, List, [], ◌∷◌, ℕ, ◌^◌, ◌≤◌, ◌<◌, ltb, length, drop, Result, Ok, Err}
 use Rattle.numbers.specs.Pick.{pick}
 use Rattle.grammar.specs.declared.refusal.Refusal.{Refusal}
 use Rattle.grammar.specs.declared.refusal.Refusal.TheVariants.{NotACase, NumberTooLarge}
@@ -36,9 +37,18 @@ whole_of (wrong r) = refused r
 abbrev pub whole : (ℕ → Rule) → ℕ → List ℕ → Front
 whole g i cs = whole_of (run g depth 0 i most cs)
 
-abbrev pub standing : Bool → (ℕ → Rule) → ℕ → List ℕ → Front
-standing true = whole
-standing false = front
+-- what the walk read, in the code's words: from 2^62 on a number is not exact
+abbrev pub WalkedBy : Read → List ℕ → ℕ → Result Item Refusal → Type 0
+WalkedBy w cells at (Ok i) = (n : ℕ) × (q : ℕ) × (w ≡ read n q (drop i.next cells)) × (i.number < 2 ^ 62 → n ≡ i.number) × (2 ^ 62 ≤ i.number → 2 ^ 62 ≤ n)
+    × (at < i.next) × (i.next ≤ length cells)
+WalkedBy w cells at (Err r) = w ≡ wrong r
+
+pub record Walked (g : ℕ → Rule) (i : ℕ) (cells : List ℕ) (at : ℕ) (r : Result Item Refusal) : Type 0 where
+  pub is : WalkedBy (run g depth 0 i most (drop at cells)) cells at r
+
+-- "then 16"
+abbrev pub numbered : Item → Result Item Refusal
+numbered i = pick (ltb i.number (2 ^ 62)) (Ok i) (Err NumberTooLarge)
 
 abbrev pub StoodBy : Front → List ℕ → ℕ → Result Item Refusal → Type 0
 StoodBy f cells at (Ok i) = (f ≡ number i.number (drop i.next cells)) × (at < i.next) × (i.next ≤ length cells)

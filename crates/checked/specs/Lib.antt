@@ -3,3 +3,4 @@ pub mod Prepared
 pub mod Fits
 pub mod Item
 pub mod Opening
+pub mod Opened

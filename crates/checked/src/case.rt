@@ -1,28 +1,21 @@
 // One case on a checked table, written whole or not at all.
-ghost use Rattle.grammar.specs.Plan.{rule_in};
-ghost use Rattle.walk.specs.Plan.{Reading};
 ghost use Rattle.checked.specs.Fits.{Placed};
+ghost use Rattle.checked.specs.Opened.{rules};
 
-use super::decided::decided;
-use super::fits::{fits, room_for};
-use grammar::entry::Entry;
+use super::fits::room_for;
+use super::opened::Opened;
 use grammar::refusal::Refusal;
 use laying::sure::sure;
 
-// The first pass decides and writes nothing; where every case of the start fits, there is nothing for it
-// to decide.
-pub fn write_case<'a>(
-    pool: &'a [u64],
-    plan: &'a [Entry],
-    start: usize,
-    number: u64,
-    cells: &mut [u64],
-) -> Result<usize, Refusal>
-    requires { Reading plan.now pool.now start }
-    ensures { Placed (rule_in plan.now pool.now) start number cells.old cells.new result }
-{
-    if !sure(plan, start, room_for(cells.len())) {
-        decided(pool, plan, start, number, cells.len())?;
+impl<'a> Opened<'a> {
+    // The first pass decides and writes nothing; where every case of the start fits, there is nothing for
+    // it to decide.
+    pub fn write(&self, number: u64, cells: &mut [u64]) -> Result<usize, Refusal>
+        ensures { Placed (rules self.now) self.now.start number cells.old cells.new result }
+    {
+        if !sure(self.plan, self.start, room_for(cells.len())) {
+            self.decided(number, cells.len())?;
+        }
+        self.fits(number, cells)
     }
-    fits(pool, plan, start, number, cells)
 }

@@ -7,7 +7,5 @@ pub fn copy(from: &[u64], count: usize, to: &mut [u64])
     requires { (count ≤ length from.now) × (count ≤ length to.old) }
     ensures { to.new ≡ over (take count from.now) to.old }
 {
-    for i in 0..count {
-        to[i] = from[i];
-    }
+    to[..count].copy_from_slice(&from[..count]);
 }

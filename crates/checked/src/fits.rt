@@ -1,13 +1,12 @@
 // One number on a checked table: "12, then the walk with the room left". This is the second pass, which writes.
 ghost use Rattle.std.specs.Prelude.{◌≡◌, ℕ, ◌≤◌};
 ghost use Rattle.numbers.specs.Size.{size_of};
-ghost use Rattle.grammar.specs.Plan.{rule_in};
 ghost use Rattle.walk.specs.Room.{Left};
-ghost use Rattle.walk.specs.Plan.{Reading};
 ghost use Rattle.checked.specs.Fits.{room_for, outcome, FitOver};
 ghost use Rattle.checked.specs.Fits.{asked as is_asked};
+ghost use Rattle.checked.specs.Opened.{rules};
 
-use grammar::entry::Entry;
+use super::opened::Opened;
 use grammar::refusal::Refusal;
 use laying::lay::lay;
 use laying::rest::Rest;
@@ -23,17 +22,14 @@ pub const MOST_CELLS: usize = 65536;
 pub fn room_for(room: usize) -> usize
     ensures { result ≡ room_for room }
 {
-    if room < MOST_CELLS { room } else { MOST_CELLS }
+    room.min(MOST_CELLS)
 }
 
 // "Numbers asked for are below 2^62 and below the size."
 pub fn asked(size: u64, number: u64) -> bool
     ensures { result ≡ is_asked (size_of size) number }
 {
-    if number < LARGEST {
-        return number < size;
-    }
-    false
+    number < LARGEST && number < size
 }
 
 // What a walk leaves of the room, as an answer: the count of the case's cells, or "of 13 and 14 the one first met".
@@ -44,22 +40,20 @@ pub fn fit_of(most: usize, rest: Rest) -> Result<usize, Refusal>
     Ok(most - rest.result()?)
 }
 
-// It decides as the first pass does by the buffer's length, and writes what fits.
-pub fn fits<'a>(
-    pool: &'a [u64],
-    plan: &'a [Entry],
-    start: usize,
-    number: u64,
-    out: &mut [u64],
-) -> Result<usize, Refusal>
-    requires { Reading plan.now pool.now start }
-    ensures { FitOver (rule_in plan.now pool.now) start number out.old out.new result }
-{
-    if asked(plan[start].size, number) {
-        let most = room_for(out.len());
-        let lent = Lent { pool, plan };
-        let rest = lay(&lent, start, number, 0, DEPTH, &mut out[..most]);
-        return fit_of(most, rest);
+impl<'a> Opened<'a> {
+    // It decides as the first pass does by the buffer's length, and writes what fits.
+    pub fn fits(&self, number: u64, out: &mut [u64]) -> Result<usize, Refusal>
+        ensures { FitOver (rules self.now) self.now.start number out.old out.new result }
+    {
+        if asked(self.plan[self.start].size, number) {
+            let most = room_for(out.len());
+            let lent = Lent {
+                pool: self.pool,
+                plan: self.plan,
+            };
+            let rest = lay(&lent, self.start, number, 0, DEPTH, &mut out[..most]);
+            return fit_of(most, rest);
+        }
+        Err(Refusal::NoSuchNumber)
     }
-    Err(Refusal::NoSuchNumber)
 }

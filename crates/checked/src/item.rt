@@ -1,12 +1,11 @@
 // One case at the front of cells, on a checked table: "the walk, then 16".
 ghost use Rattle.std.specs.Prelude.{◌≡◌, ◌≤◌, length, drop};
-ghost use Rattle.grammar.specs.Plan.{rule_in};
 ghost use Rattle.taking.specs.Number.{why};
-ghost use Rattle.walk.specs.Plan.{Reading};
-ghost use Rattle.checked.specs.Item.{front, whole, standing, Stood};
+ghost use Rattle.checked.specs.Opened.{rules};
+ghost use Rattle.checked.specs.Item.{front, whole, numbered, Walked, Stood};
 
 use super::fits::{DEPTH, MOST_CELLS, room_for};
-use grammar::entry::Entry;
+use super::opened::Opened;
 use grammar::refusal::Refusal;
 use numbers::size::LARGEST;
 use taking::number::Unread;
@@ -37,61 +36,57 @@ fn why(unread: Unread, full: bool) -> Refusal
     }
 }
 
-// The case that starts at a place: "The limit of 65,536 counts from the item's first cell". "Then cells
-// left over (15, whole-case reading only), then 16."
-fn case_at<'a>(
-    pool: &'a [u64],
-    plan: &'a [Entry],
-    start: usize,
-    cells: &[u64],
-    at: usize,
-    whole: bool,
-) -> Result<Item, Refusal>
-    requires { Reading plan.now pool.now start × (at ≤ length cells.now) }
-    ensures { Stood (standing whole (rule_in plan.now pool.now) start (drop at cells.now)) cells.now at result }
+// "then 16": a number not below 2^62.
+fn numbered(item: Item) -> Result<Item, Refusal>
+    ensures { result ≡ numbered item }
 {
-    let left = cells.len() - at;
-    let few = room_for(left);
-    let row = &cells[at..at + few];
-    let mut used: usize = 0;
-    let lent = Lent { pool, plan };
-    let read = take(&lent, start, &row, DEPTH, 0, &mut used);
-    let number = read.result().map_err(|unread| why(unread, MOST_CELLS <= left))?;
-    let next = at + used;
-    if whole {
-        if next < cells.len() {
+    if LARGEST <= item.number {
+        return Err(Refusal::NumberTooLarge);
+    }
+    Ok(item)
+}
+
+impl<'a> Opened<'a> {
+    // What the walk reads from a place on: "The limit of 65,536 counts from the item's first cell". From
+    // 2^62 on a number is not exact.
+    fn walked(&self, cells: &[u64], at: usize) -> Result<Item, Refusal>
+        requires { at ≤ length cells.now }
+        ensures { Walked (rules self.now) self.now.start cells.now at result }
+    {
+        let left = cells.len() - at;
+        let few = room_for(left);
+        let row = &cells[at..at + few];
+        let mut used: usize = 0;
+        let lent = Lent {
+            pool: self.pool,
+            plan: self.plan,
+        };
+        let read = take(&lent, self.start, &row, DEPTH, 0, &mut used);
+        let number = read
+            .result()
+            .map_err(|unread| why(unread, MOST_CELLS <= left))?;
+        Ok(Item {
+            number: number.unwrap_or(LARGEST),
+            next: at + used,
+        })
+    }
+
+    // The case at a place, whatever stands behind it.
+    pub fn item(&self, cells: &[u64], at: usize) -> Result<Item, Refusal>
+        requires { at ≤ length cells.now }
+        ensures { Stood (front (rules self.now) self.now.start (drop at cells.now)) cells.now at result }
+    {
+        numbered(self.walked(cells, at)?)
+    }
+
+    // All cells are one case: "Then cells left over (15, whole-case reading only), then 16."
+    pub fn whole(&self, cells: &[u64]) -> Result<Item, Refusal>
+        ensures { Stood (whole (rules self.now) self.now.start cells.now) cells.now 0 result }
+    {
+        let item = self.walked(cells, 0)?;
+        if item.next < cells.len() {
             return Err(Refusal::NotACase);
         }
+        numbered(item)
     }
-    match number {
-        Some(number) if number < LARGEST => Ok(Item { number, next }),
-        _ => Err(Refusal::NumberTooLarge),
-    }
-}
-
-// The case at a place, whatever stands behind it.
-pub fn item_at<'a>(
-    pool: &'a [u64],
-    plan: &'a [Entry],
-    start: usize,
-    cells: &[u64],
-    at: usize,
-) -> Result<Item, Refusal>
-    requires { Reading plan.now pool.now start × (at ≤ length cells.now) }
-    ensures { Stood (front (rule_in plan.now pool.now) start (drop at cells.now)) cells.now at result }
-{
-    case_at(pool, plan, start, cells, at, false)
-}
-
-// All cells are one case.
-pub fn read_case<'a>(
-    pool: &'a [u64],
-    plan: &'a [Entry],
-    start: usize,
-    cells: &[u64],
-) -> Result<Item, Refusal>
-    requires { Reading plan.now pool.now start }
-    ensures { Stood (whole (rule_in plan.now pool.now) start cells.now) cells.now 0 result }
-{
-    case_at(pool, plan, start, cells, 0, true)
 }

@@ -3,8 +3,9 @@ ghost use Rattle.std.specs.Prelude.{◌≡◌};
 ghost use Rattle.grammar.specs.Table.{lengths};
 ghost use Rattle.checked.specs.Prepared.{Blank, Prepared};
 
-use grammar::entry::Entry;
+use grammar::entry::{BLANK, Entry};
 use grammar::refusal::{Refusal, Refused};
+use grammar::weighed::Weighed;
 use planning::plan::weigh_all;
 
 const MOST_NODES: usize = 256;
@@ -13,11 +14,11 @@ const MOST_WORDS: usize = 4096;
 
 // The words of a table of 16 nodes: up to here a call takes a plan of 16 entries, else one of 256. A small
 // table does not pay for the largest.
-pub const SMALL: usize = 48;
+const SMALL: usize = 48;
 
-pub const SMALL_PLAN: usize = 16;
+const SMALL_PLAN: usize = 16;
 
-pub const PLAN: usize = 256;
+const PLAN: usize = 256;
 
 // "word and pool lengths"
 fn lengths_fit(table: &[u64], pool: &[u64]) -> bool
@@ -39,5 +40,22 @@ pub fn prepare(table: &[u64], pool: &[u64], plan: &mut [Entry]) -> Result<(), Re
         });
     }
     weigh_all(table, pool, plan)?;
-    cycles::judge(table, pool, plan)
+    cycles::judge(&Weighed { table, pool, plan })
+}
+
+// A call that is lent a plan for the table, beside a buffer of its own.
+pub fn with_plan<R, F: FnOnce(&mut [Entry], &mut [u64]) -> R>(
+    table: &[u64],
+    lent: &mut [u64],
+    call: F,
+) -> R
+    requires { (p : _) (l : _) → Blank table.now p.now → F.pre call p l }
+    ensures { (p : _) × (q : _) × (l : _) × (m : _) × Blank table.now p.now × (l.now ≡ lent.old) × (m.now ≡ lent.new) × F.post call p l result q m }
+{
+    if table.len() <= SMALL {
+        let mut plan = [BLANK; SMALL_PLAN];
+        return call(&mut plan, lent);
+    }
+    let mut plan = [BLANK; PLAN];
+    call(&mut plan, lent)
 }

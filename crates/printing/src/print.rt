@@ -7,8 +7,7 @@ ghost use Rattle.printing.specs.Printed.{case_line, printed, Judges, Answers};
 
 use super::input::{POOL_WORDS, TABLE_WORDS, one_at};
 use super::shape::Shape;
-use checked::opened::begin;
-use checked::prepared::PLAN;
+use checked::opened::with_opened;
 use grammar::refusal::{Refusal, Refused, number_of};
 use texts::page::Page;
 
@@ -74,8 +73,7 @@ fn judge(asked: &Asked<'_>, text: &[u8], from: usize, page: &mut Page)
 fn opened(asked: &Asked<'_>) -> Result<(), Refused>
     ensures { result ≡ opening asked.now.table.now asked.now.pool.now asked.now.start }
 {
-    let mut plan = [0u64; PLAN];
-    begin(asked.table, asked.pool, &mut plan, asked.start)
+    with_opened(asked.table, asked.pool, asked.start, &mut [], |_, _| ())
 }
 
 // A line for each number from a place on.

@@ -1,62 +1,72 @@
--- What the code of the row calls has found, in the words of their promises: by how the call opened, and then by the items.
---   row_refused, row_not, row_done     `write_row`
---   got_refused, got_items             `read_row`
---   next_refused, next_end, next_item, next_within, next_not   the reader
+-- What the code of the row calls has found, in the words of their promises.
+--   row_refused, got_refused, next_refused   the table or the start is refused
+--   items_not_written, items_written, row_done   `write_row`
+--   got_items                                `read_row`
+--   next_is, next_end, next_item, next_forward, next_within, next_not   the reader
 -- Assumes nothing.
 use mathlib.Core.Path.{◌≡◌, refl, sym, ap, ◌∙◌}
 use mathlib.Core.List.{List, [], ◌∷◌}
-use Prim.Native.Nat.{ℕ, ◌+◌, ◌-◌, ◌≤◌, ◌<◌}
+use Prim.Native.Nat.{ℕ, ◌-◌, ◌≤◌, ◌<◌}
 use native.Mathlib.Nat.{not-suc-le-zero}
 use native.Mathlib.Omega.{arith}
 use lib.ListN.{length, drop, length-drop, drop_of_length-le}
 use Rattle.grammar.specs.declared.refusal.Refusal.{Refusal}
 use Rattle.grammar.specs.declared.refusal.Refused.{Refused}
 use Rattle.std.specs.Prelude.{Result, Ok, Err}
-use Rattle.grammar.specs.Refusals.{Verdict, refused}
+use Rattle.grammar.specs.Refusals.{refused}
 use Rattle.grammar.specs.Rule.{Rule}
-use Rattle.grammar.specs.Plan.{rule_in}
-use Rattle.checked.specs.Opening.{Opens}
+use Rattle.checked.specs.Opening.{opening}
+use Rattle.checked.specs.Opened.{Place, rules, Stands}
 use Rattle.checked.specs.Item.{front, Stood}
 use Rattle.checked.specs.declared.item.Item.{Item}
 use Rattle.checked.proofs.Standing.{stood}
-use Rattle.rows.specs.Row.{Outcome, done, at_first, row_answer}
-use Rattle.rows.specs.WriteRow.{in_turn, RowOver, writes_row, WroteRow, write_row_says}
+use Rattle.rows.proofs.Outcomes.{hands_same}
+use Rattle.rows.specs.Row.{Outcome, at_first, row_answer}
+use Rattle.rows.specs.WriteRow.{in_turn, RowOver, WroteItems, writes_row, WroteRow, write_row_says}
 use Rattle.rows.specs.ReadRow.{reads_row, GotItems, GotRow, read_row_says}
-use Rattle.rows.specs.Reader.{Reply, hands, at_end, handed, next, next_of, after_of, stride_of}
+use Rattle.rows.specs.Reader.{Reply, hands, at_end, handed, next, next_of, Within}
 use Rattle.rows.specs.declared.answer.Row.{Row}
 use Rattle.rows.specs.declared.answer.RowRefused.{RowRefused}
 
--- ---- write_row
-module _ {t p plan : List ℕ} {i : ℕ} {v : Verdict} (h : Opens t p plan i v) (ns old : List ℕ) where
-  pub row_refused : {e : Refused} → v ≡ Err e → WroteRow t p i ns old old (at_first e)
+-- ---- the table or the start is refused
+module _ (t p : List ℕ) (i : ℕ) {e : Refused} (h : opening t p i ≡ Err e) where
+  pub row_refused : {ns old last : List ℕ} → last ≡ old → WroteRow t p i ns old last (at_first e)
   unfolding writes_row write_row_says
-  row_refused q = record { says = rw (← h.is, q); holds = refl }
+  row_refused g = record { says = rw h; holds = g }
 
-  module _ {u : Unit {0}} (a : v ≡ Ok u) {r : Outcome} (e : r ≡ in_turn (rule_in plan p) i (length old) ns) where
-    row_is : writes_row t p i (length old) ns ≡ r
-    unfolding writes_row
-    row_is = rw (← h.is, a, ← (h.ready a).rules, e)
-
-    pub row_not : {x : RowRefused} → r ≡ Err x → WroteRow t p i ns old old (Err x)
-    unfolding write_row_says
-    row_not q = record { says = ap row_answer (sym (row_is ∙ q)); holds = refl }
-
-    -- the second pass answers as the first
-    pub row_done : {d : Row} → r ≡ Ok d → {last : List ℕ} {x : Outcome} → RowOver (rule_in plan p) i ns old last x → WroteRow t p i ns old last x
-    unfolding write_row_says
-    row_done {d} q {x = x} f =
-        let s : x ≡ Ok d = f.is ∙ sym e ∙ q in
-        rw s (record { says = ap row_answer (sym (row_is ∙ q)); holds = rw (← (h.ready a).rules) (f.holds d.items d.cells s) })
-
--- ---- read_row
-module _ {t p plan : List ℕ} {i : ℕ} {v : Verdict} (h : Opens t p plan i v) {cs old : List ℕ} where
-  pub got_refused : {e : Refused} → v ≡ Err e → GotRow t p i cs old old (at_first e)
+  pub got_refused : {cs old last : List ℕ} → last ≡ old → GotRow t p i cs old last (at_first e)
   unfolding reads_row read_row_says
-  got_refused q = record { says = rw (← h.is, q); holds = refl }
+  got_refused g = record { says = rw h; holds = g }
 
-  pub got_items : {u : Unit {0}} → v ≡ Ok u → {last : List ℕ} {r : Outcome} → GotItems (rule_in plan p) i cs old last r → GotRow t p i cs old last r
+  pub next_refused : (row : List ℕ) (at : ℕ) → Err e ≡ next_of t p i row at
+  unfolding next_of
+  next_refused row at = rw h
+
+-- ---- the items of a row that is written: the second pass answers as the first
+module _ {g : ℕ → Rule} {i : ℕ} (ns old : List ℕ) {r : Outcome} (e : r ≡ in_turn g i (length old) ns) where
+  pub items_not_written : {x : RowRefused} → r ≡ Err x → WroteItems g i ns old old (Err x)
+  items_not_written q = record { is = sym q ∙ e; holds = refl }
+
+  pub items_written : {d : Row} → r ≡ Ok d → {last : List ℕ} {x : Outcome} → RowOver g i ns old last x → WroteItems g i ns old last x
+  items_written {d} q {x = x} f =
+      let s : x ≡ Ok d = f.is ∙ sym e ∙ q in
+      rw s (record { is = sym q ∙ e; holds = f.holds d.items d.cells s })
+
+module _ {t p : List ℕ} {i : ℕ} {o : Place} (h : Stands t p i o) where
+  -- ---- write_row
+  pub row_done : {ns old last : List ℕ} {r : Outcome} → WroteItems (rules o) o.start ns old last r → WroteRow t p i ns old last r
+  unfolding writes_row write_row_says
+  row_done w = record { says = ap row_answer (rw (h.accepts, ← h.same, ← h.start) w.is); holds = rw (← h.same, ← h.start) w.holds }
+
+  -- ---- read_row
+  pub got_items : {cs old last : List ℕ} {r : Outcome} → GotItems (rules o) o.start cs old last r → GotRow t p i cs old last r
   unfolding reads_row read_row_says
-  got_items a g = record { says = ap row_answer (rw (← h.is, a, ← (h.ready a).rules) g.is); holds = rw (← (h.ready a).rules) g.holds }
+  got_items w = record { says = ap row_answer (rw (h.accepts, ← h.same, ← h.start) w.is); holds = rw (← h.same, ← h.start) w.holds }
+
+  -- ---- the reader
+  pub next_is : (row : List ℕ) (at : ℕ) {r : Reply} → r ≡ next (rules o) o.start (drop at row) → r ≡ next_of t p i row at
+  unfolding next_of
+  next_is row at e = rw (h.accepts, ← h.same, ← h.start) e
 
 -- ---- the reader
 pub next_some : (g : ℕ → Rule) (i : ℕ) (cs : List ℕ) → 0 < length cs → next g i cs ≡ handed (length cs) (front g i cs)
@@ -64,32 +74,26 @@ unfolding next
 next_some g i [] l = absurd (not-suc-le-zero l)
 next_some g i (c ∷ cs) l = refl
 
-module _ {t p plan : List ℕ} {i : ℕ} {v : Verdict} (h : Opens t p plan i v) (row : List ℕ) (at : ℕ) where
-  pub next_refused : {e : Refused} → v ≡ Err e → Err e ≡ next_of t p i row at
-  unfolding next_of
-  next_refused q = rw (← h.is, q)
+module _ (g : ℕ → Rule) (i : ℕ) (row : List ℕ) (at : ℕ) where
+  pub next_end : length row ≤ at → at_end ≡ next g i (drop at row)
+  unfolding next
+  next_end k = rw (drop_of_length-le row {i = at} k)
 
-  module _ {u : Unit {0}} (a : v ≡ Ok u) where
-    next_is : next_of t p i row at ≡ next (rule_in plan p) i (drop at row)
-    unfolding next_of
-    next_is = rw (← h.is, a, (h.ready a).rules)
+  module _ (k : at < length row) {r : Result Item Refusal} (w : Stood (front g i (drop at row)) row at r) where
+    is_handed : next g i (drop at row) ≡ handed (length (drop at row)) (front g i (drop at row))
+    is_handed = next_some g i (drop at row) (omega (arith, length-drop at row))
 
-    pub next_end : length row ≤ at → at_end ≡ next_of t p i row at
-    unfolding next
-    next_end k = sym (next_is ∙ rw (drop_of_length-le row {i = at} k))
+    pub next_item : {d : Item} → r ≡ Ok d → hands d.number (d.next - at) ≡ next g i (drop at row)
+    next_item {d} q =
+        let (e, lo, hi) = stood w q in
+        let s : length (drop at row) - length (drop d.next row) ≡ d.next - at = omega (arith, length-drop at row, length-drop d.next row) in
+        sym (is_handed ∙ rw (e, s))
 
-    module _ (k : at < length row) {r : Result Item Refusal} (w : Stood (front (rule_in plan p) i (drop at row)) row at r) where
-      is_handed : next_of t p i row at ≡ handed (length (drop at row)) (front (rule_in plan p) i (drop at row))
-      is_handed = next_is ∙ next_some (rule_in plan p) i (drop at row) (omega (arith, length-drop at row))
+    pub next_forward : {d : Item} → r ≡ Ok d → at ≤ d.next
+    next_forward q = let (e, lo, hi) = stood w q in omega arith
 
-      pub next_item : {d : Item} → r ≡ Ok d → hands d.number (d.next - at) ≡ next_of t p i row at
-      next_item {d} q =
-          let (e, lo, hi) = stood w q in
-          let s : length (drop at row) - length (drop d.next row) ≡ d.next - at = omega (arith, length-drop at row, length-drop d.next row) in
-          sym (is_handed ∙ rw (e, s))
+    pub next_within : {d : Item} → r ≡ Ok d → Within at (hands d.number (d.next - at)) row
+    next_within q n s = let (e, lo, hi) = stood w q in omega (arith, hands_same s)
 
-      pub next_within : {d : Item} → r ≡ Ok d → (at ≤ d.next) × (at + (d.next - at) ≤ length row)
-      next_within q = let (e, lo, hi) = stood w q in (omega arith, omega arith)
-
-      pub next_not : {x : Refusal} → r ≡ Err x → refused x 0 ≡ next_of t p i row at
-      next_not q = sym (is_handed ∙ rw (stood w q))
+    pub next_not : {x : Refusal} → r ≡ Err x → refused x 0 ≡ next g i (drop at row)
+    next_not q = sym (is_handed ∙ rw (stood w q))

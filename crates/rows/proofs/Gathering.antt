@@ -2,7 +2,7 @@
 --   Storing      a row's answer is that of its rest, so many numbers later, and those stand over the buffer's front, as far as that goes
 --   answered_all, answered_stopped, gathered_size   what was gathered, by the answer
 --   items_not, items_kept, items_again   `read_items`: refused; done, and what was kept is stored, or it is gathered again
---   items_few, items_long   no more numbers than the buffer has room for; it keeps its length
+--   items_few               no more numbers than the buffer has room for
 -- Assumes nothing.
 use mathlib.Core.Path.{◌≡◌, refl, sym, ap, ◌∙◌}
 use mathlib.Core.List.{List, [], ◌∷◌, ◌++◌, append_assoc, append-nil}
@@ -168,10 +168,6 @@ gathered_size g i room cs used e =
     (sym s ∙ ap (λ (x : Gathered). length (gotten x)) (sym f), omega (arith, gathered_fits g i room cs f))
 
 -- ---- the items: decided over a buffer of the call's own
-pub items_long : {g : ℕ → Rule} {i : ℕ} {cs old last : List ℕ} {r : Outcome} → GotItems g i cs old last r → length last ≡ length old
-items_long {old = old} {r = Ok d} w = over_long _ old w.holds
-items_long {r = Err x} w = ap length w.holds
-
 module _ {g : ℕ → Rule} {i : ℕ} {cs first kept : List ℕ} {r : Outcome} (old : List ℕ) (w : NumbersOver g i (length old) cs first kept r) where
   pub items_not : {x : RowRefused} → r ≡ Err x → GotItems g i cs old old (Err x)
   items_not q = record { is = sym q ∙ w.is; holds = refl }

@@ -76,12 +76,15 @@ module _ (g : ℕ → Rule) (i : ℕ) where
       pub tallying_stops : {s : Result ℕ RowRefused} {x : RowRefused} → s ≡ at_item f j → s ≡ Err x → Err x ≡ in_turn g i room ns
       tallying_stops a q = let (r, k, m) = found_err f j a q in rw m (stopped k)
 
-    pub tallying_done : length ns ≤ j → done j used ≡ in_turn g i room ns
+    tallying_done : length ns ≤ j → done j used ≡ in_turn g i room ns
     unfolding in_turn
     tallying_done l =
         let s : j + 0 ≡ j = omega arith in
         let u : used + 0 ≡ used = omega arith in
         sym (h.rest ∙ rw (drop_of_length-le ns {i = j} l, s, u))
+
+    pub tallying_all : length ns ≤ j → done (length ns) used ≡ in_turn g i room ns
+    tallying_all l = let s : length ns ≡ j = omega (arith, h.le) in rw s (tallying_done l)
 
   -- ---- the row's cells
   row_append : (ms ns : List ℕ) → row_of g i (ms ++ ns) ≡ row_of g i ms ++ row_of g i ns
@@ -110,8 +113,8 @@ module _ (g : ℕ → Rule) (i : ℕ) where
     pub laying_within : used ≤ length now
     laying_within = omega (arith, h.tally.fits, laying_long)
 
-    pub laying_done : length ns ≤ j → RowOver g i ns old now (done j used)
-    laying_done l = record { is = tallying_done h.tally l; long = laying_long; holds = λ m c x. h.holds ∙ rw (take_all j ns l) }
+    pub laying_all : length ns ≤ j → RowOver g i ns old now (done (length ns) used)
+    laying_all l = record { is = tallying_all h.tally l; long = laying_long; holds = λ m c x. h.holds ∙ rw (take_all j ns l) }
 
     module _ {part last : List ℕ} (l : j < length ns) (p : part ≡ take (length now - used) (drop used now)) {f : Fit}
         (e : FitOver g i (get_or ns j 0) part last f) where

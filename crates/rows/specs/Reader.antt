@@ -3,13 +3,14 @@
 -- else it answers as row reading does for one item and moves past it. After a refusal it stays."
 --   Reply       an item handed out, the row's end, or a refusal
 --   next_of     the answer at a place of a row
+--   Within      an item ends within the row
 --   after_of    the place after it
 --   stride_of   both
 --   next_answer 01's number, node, item and counts of an answer; next_says those of a call's
 --   Strode     the answer and the place after it, for every input
 --   Moved      the same of a reader
 -- Assumes nothing.
-use Rattle.std.specs.Prelude.{◌≡◌, List, [], ◌∷◌, ℕ, ◌+◌, ◌-◌, length, drop, Option, Some, None, Result, Ok, Err}
+use Rattle.std.specs.Prelude.{◌≡◌, List, [], ◌∷◌, ℕ, ◌+◌, ◌-◌, ◌≤◌, length, drop, Option, Some, None, Result, Ok, Err}
 use Rattle.grammar.specs.Refusals.{number_of, refused as refuses}
 use Rattle.grammar.specs.declared.refusal.Refused.{Refused}
 use Rattle.grammar.specs.Rule.{Rule}
@@ -40,6 +41,10 @@ next g i (c ∷ cs) = handed (length (c ∷ cs)) (front g i (c ∷ cs))
 
 unfoldable pub next_of : List ℕ → List ℕ → ℕ → List ℕ → ℕ → Reply
 next_of t p i row at = judged Err (opening t p i) (next (rules_of t p) i (drop at row))
+
+-- an item ends within the row
+abbrev pub Within : ℕ → Reply → List ℕ → Type 0
+Within at r row = (n : Next) → r ≡ Ok (Some n) → at + n.cells ≤ length row
 
 -- "moves past it. After a refusal it stays."
 abbrev pub after_of : ℕ → Reply → ℕ

@@ -2,6 +2,7 @@
 -- items is done."
 --   in_turn      the answer for the numbers, with a room
 --   RowOver     the same, over a buffer
+--   WroteItems  the same, and nothing changes in a buffer where it is refused
 --   row_of       the cases of the numbers, one after another with no marks between
 --   writes_row   the answer for a table, its pool, a start node, a room and the numbers; write_row_says its values
 --   WroteRow    the answer and the buffer's last words, for every input
@@ -43,6 +44,11 @@ writes_row t p i room ns = judged at_first (opening t p i) (in_turn (rules_of t 
 
 unfoldable pub write_row_says : List ℕ → List ℕ → ℕ → ℕ → List ℕ → RowAnswer
 write_row_says t p i room ns = row_answer (writes_row t p i room ns)
+
+-- of a grammar and a node of it
+pub record WroteItems (g : ℕ → Rule) (i : ℕ) (ns old last : List ℕ) (r : Outcome) : Type 0 where
+  pub is : r ≡ in_turn g i (length old) ns
+  pub holds : last ≡ leaves r (row_of g i ns) old
 
 pub record WroteRow (t p : List ℕ) (i : ℕ) (ns old last : List ℕ) (r : Outcome) : Type 0 where
   pub says : row_answer r ≡ write_row_says t p i (length old) ns

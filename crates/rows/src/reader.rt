@@ -1,14 +1,10 @@
 // "A reader hands out one case at a time from the front of a lent row": a struct of the lent row and a place,
 // thin over the covered slice-and-place function.
-ghost use Rattle.std.specs.Prelude.{◌≡◌, ◌+◌, ◌≤◌, length};
-ghost use Rattle.checked.specs.Prepared.{Blank};
-ghost use Rattle.rows.specs.declared.reader.Next.{Next};
-ghost use Rattle.rows.specs.Reader.{next_of, stride_of, Strode, Moved};
+ghost use Rattle.std.specs.Prelude.{◌≡◌, drop};
+ghost use Rattle.checked.specs.Opened.{rules};
+ghost use Rattle.rows.specs.Reader.{next, next_of, Within, stride_of, Strode, Moved};
 
-use checked::item::item_at;
-use checked::opened::begin;
-use checked::prepared::{PLAN, SMALL, SMALL_PLAN};
-use grammar::entry::{BLANK, Entry};
+use checked::opened::{Opened, with_opened};
 use grammar::refusal::Refused;
 
 // What a reader hands out: a number and the count of its cells.
@@ -25,60 +21,51 @@ pub struct Stride {
     pub at: usize,
 }
 
-// The call over a lent plan: none at the row's end, else the case at the place.
-fn next_with(
-    table: &[u64],
-    pool: &[u64],
-    plan: &mut [Entry],
-    start: usize,
-    row: &[u64],
-    at: usize,
-) -> Result<Option<Next>, Refused>
-    requires { Blank table.now plan.old }
-    ensures is { result ≡ next_of table.now pool.now start row.now at }
-    ensures within { (n : Next) → result ≡ Ok (Some n) → at + n.cells ≤ length row.now }
+// None at the row's end, else the case at the place.
+fn next_case(opened: &Opened, row: &[u64], at: usize) -> Result<Option<Next>, Refused>
+    ensures is { result ≡ next (rules opened.now) opened.now.start (drop at row.now) }
+    ensures within { Within at result row.now }
 {
-    begin(table, pool, plan, start)?;
     if row.len() <= at {
         return Ok(None);
     }
-    let item = item_at(pool, plan, start, row, at)?;
+    let item = opened.item(row, at)?;
     Ok(Some(Next {
         number: item.number,
         cells: item.next - at,
     }))
 }
 
-// At the row's end and after a refusal it stays, else it moves past the case at the place.
-fn stride_with(
+fn next_at(
     table: &[u64],
     pool: &[u64],
-    plan: &mut [Entry],
     start: usize,
     row: &[u64],
     at: usize,
-) -> Stride
-    requires { Blank table.now plan.old }
+) -> Result<Option<Next>, Refused>
+    ensures is { result ≡ next_of table.now pool.now start row.now at }
+    ensures within { Within at result row.now }
+{
+    with_opened(
+        table,
+        pool,
+        start,
+        &mut [],
+        |opened, _| next_case(opened, row, at),
+    )?
+}
+
+// The covered function on a slice and a place: the answer and the next place together. At the row's end
+// and after a refusal it stays, else it moves past the case at the place.
+fn stride_at(table: &[u64], pool: &[u64], start: usize, row: &[u64], at: usize) -> Stride
     ensures { result ≡ stride_of table.now pool.now start row.now at }
 {
-    let answer = next_with(table, pool, plan, start, row, at);
+    let answer = next_at(table, pool, start, row, at);
     let to = match answer {
         Ok(Some(next)) => at + next.cells,
         Ok(None) | Err(_) => at,
     };
     Stride { answer, at: to }
-}
-
-// The covered function on a slice and a place: the answer and the next place together.
-fn stride_at(table: &[u64], pool: &[u64], start: usize, row: &[u64], at: usize) -> Stride
-    ensures { result ≡ stride_of table.now pool.now start row.now at }
-{
-    if table.len() <= SMALL {
-        let mut plan = [BLANK; SMALL_PLAN];
-        return stride_with(table, pool, &mut plan, start, row, at);
-    }
-    let mut plan = [BLANK; PLAN];
-    stride_with(table, pool, &mut plan, start, row, at)
 }
 
 #[derive(Drop)]

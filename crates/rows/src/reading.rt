@@ -1,16 +1,11 @@
 // From a row of cells to numbers.
 ghost use Rattle.std.specs.Prelude.{◌≡◌, set};
-ghost use Rattle.grammar.specs.Plan.{rule_in};
-ghost use Rattle.checked.specs.Prepared.{Blank};
-ghost use Rattle.walk.specs.Plan.{Reading};
+ghost use Rattle.checked.specs.Opened.{rules};
 ghost use Rattle.rows.specs.ReadRow.{NumbersOver, GotItems, GotRow};
 
 use super::answer::{Row, RowRefused, at_item};
 use checked::copy::copy;
-use checked::item::item_at;
-use checked::opened::begin;
-use checked::prepared::{PLAN, SMALL, SMALL_PLAN};
-use grammar::entry::{BLANK, Entry};
+use checked::opened::{Opened, with_opened};
 use grammar::refusal::Refusal;
 
 // The room for numbers of a call's own. A row has no more items than cells: a row of up to 64 cells takes
@@ -20,31 +15,28 @@ const FEW: usize = 64;
 const MANY: usize = 1024;
 
 // A number at its place, where the lent buffer has that place.
-fn keep(n: u64, items: usize, out: &mut [u64])
-    ensures { out.new ≡ set out.old items n }
+fn keep(number: u64, item: usize, out: &mut [u64])
+    ensures { out.new ≡ set out.old item number }
 {
-    if items < out.len() {
-        out[items] = n;
+    if item < out.len() {
+        out[item] = number;
     }
 }
 
 // "the walk, then 16, then 14 if the buffer of numbers is full": decides by the room, and stores as many
 // of the numbers as the lent buffer holds.
-fn gather_row<'a>(
-    pool: &'a [u64],
-    plan: &'a [Entry],
-    start: usize,
+fn gather_row(
+    opened: &Opened,
     cells: &[u64],
     room: usize,
     out: &mut [u64],
 ) -> Result<Row, RowRefused>
-    requires { Reading plan.now pool.now start }
-    ensures { NumbersOver (rule_in plan.now pool.now) start room cells.now out.old out.new result }
+    ensures { NumbersOver (rules opened.now) opened.now.start room cells.now out.old out.new result }
 {
     let mut at: usize = 0;
     let mut items: usize = 0;
     while at < cells.len() {
-        let item = at_item(item_at(pool, plan, start, cells, at), items)?;
+        let item = at_item(opened.item(cells, at), items)?;
         if room <= items {
             return at_item(Err(Refusal::NoRoom), items);
         }
@@ -55,46 +47,33 @@ fn gather_row<'a>(
     Ok(Row { items, cells: at })
 }
 
-// The call on an opened table decides over a buffer of its own, and stores only once the whole row is
-// known to be readable: the numbers that it has kept, or else they are read again, over the buffer itself.
-fn read_items<'a>(
-    pool: &'a [u64],
-    plan: &'a [Entry],
-    start: usize,
+// It decides over a scratch of the call's own, and stores only once the whole row is known to be readable:
+// the numbers that it has kept, or else they are read again, over the buffer itself.
+fn read_over(
+    opened: &Opened,
     cells: &[u64],
     scratch: &mut [u64],
     numbers: &mut [u64],
 ) -> Result<Row, RowRefused>
-    requires { Reading plan.now pool.now start }
-    ensures { GotItems (rule_in plan.now pool.now) start cells.now numbers.old numbers.new result }
+    ensures { GotItems (rules opened.now) opened.now.start cells.now numbers.old numbers.new result }
 {
-    let row = gather_row(pool, plan, start, cells, numbers.len(), scratch)?;
+    let row = gather_row(opened, cells, numbers.len(), scratch)?;
     if row.items <= scratch.len() {
         copy(scratch, row.items, numbers);
         return Ok(row);
     }
-    gather_row(pool, plan, start, cells, numbers.len(), numbers)
+    gather_row(opened, cells, numbers.len(), numbers)
 }
 
-// The call over a lent plan.
-fn read_row_with(
-    table: &[u64],
-    pool: &[u64],
-    plan: &mut [Entry],
-    start: usize,
-    cells: &[u64],
-    numbers: &mut [u64],
-) -> Result<Row, RowRefused>
-    requires { Blank table.now plan.old }
-    ensures { GotRow table.now pool.now start cells.now numbers.old numbers.new result }
+fn read_items(opened: &Opened, cells: &[u64], numbers: &mut [u64]) -> Result<Row, RowRefused>
+    ensures { GotItems (rules opened.now) opened.now.start cells.now numbers.old numbers.new result }
 {
-    begin(table, pool, plan, start)?;
     if cells.len() <= FEW {
         let mut scratch = [0u64; FEW];
-        return read_items(pool, plan, start, cells, &mut scratch, numbers);
+        return read_over(opened, cells, &mut scratch, numbers);
     }
     let mut scratch = [0u64; MANY];
-    read_items(pool, plan, start, cells, &mut scratch, numbers)
+    read_over(opened, cells, &mut scratch, numbers)
 }
 
 // The numbers of a row of cases, stored into a lent buffer.
@@ -107,10 +86,7 @@ pub fn read_row(
 ) -> Result<Row, RowRefused>
     ensures { GotRow table.now pool.now start cells.now numbers.old numbers.new result }
 {
-    if table.len() <= SMALL {
-        let mut plan = [BLANK; SMALL_PLAN];
-        return read_row_with(table, pool, &mut plan, start, cells, numbers);
-    }
-    let mut plan = [BLANK; PLAN];
-    read_row_with(table, pool, &mut plan, start, cells, numbers)
+    with_opened(table, pool, start, numbers, |opened, numbers| {
+        read_items(opened, cells, numbers)
+    })?
 }

@@ -1,84 +1,35 @@
 -- `grammar::refusal::number_of` is 01's number.
 -- Assumes nothing.
+use mathlib.Core.Path.{◌≡◌, refl}
+use Prim.Native.Nat.{◌+◌}
+use denote.Enum.Declared.{tag_of}
 use Rattle.grammar.specs.Refusals.{number_of}
+use Rattle.grammar.specs.declared.refusal.Refusal.{Refusal}
+use Rattle.grammar.specs.declared.refusal.Refusal.TheVariants.{Length, Kind, SpareWord, Reference, Range, Repeat, UnsuitedPart, TooLarge}
+use Rattle.grammar.specs.declared.refusal.Refusal.TheVariants.{Unguarded, ExceptOnCycle, NoSuchStart, NoSuchNumber}
+use Rattle.grammar.specs.declared.refusal.Refusal.TheVariants.{TooDeep, NoRoom, NotACase, NumberTooLarge}
+use Rattle.grammar.specs.contracts.refusal.Refusal.{the_type}
 use Rattle.grammar.proofs.refusal.number_of.Goals as goal
 
-pub returns-in-Length : goal.returns-in-Length
+-- the number that the enum gives a refusal
+given : (r : Refusal) → tag_of the_type r + 1 ≡ number_of r
 unfolding number_of
-returns-in-Length c =
-    rw c.in-Length.is
+given Length = refl
+given Kind = refl
+given SpareWord = refl
+given Reference = refl
+given Range = refl
+given Repeat = refl
+given UnsuitedPart = refl
+given TooLarge = refl
+given Unguarded = refl
+given ExceptOnCycle = refl
+given NoSuchStart = refl
+given NoSuchNumber = refl
+given TooDeep = refl
+given NoRoom = refl
+given NotACase = refl
+given NumberTooLarge = refl
 
-pub returns-in-Kind : goal.returns-in-Kind
-unfolding number_of
-returns-in-Kind c =
-    rw c.in-Kind.is
-
-pub returns-in-SpareWord : goal.returns-in-SpareWord
-unfolding number_of
-returns-in-SpareWord c =
-    rw c.in-SpareWord.is
-
-pub returns-in-Reference : goal.returns-in-Reference
-unfolding number_of
-returns-in-Reference c =
-    rw c.in-Reference.is
-
-pub returns-in-Range : goal.returns-in-Range
-unfolding number_of
-returns-in-Range c =
-    rw c.in-Range.is
-
-pub returns-in-Repeat : goal.returns-in-Repeat
-unfolding number_of
-returns-in-Repeat c =
-    rw c.in-Repeat.is
-
-pub returns-in-UnsuitedPart : goal.returns-in-UnsuitedPart
-unfolding number_of
-returns-in-UnsuitedPart c =
-    rw c.in-UnsuitedPart.is
-
-pub returns-in-TooLarge : goal.returns-in-TooLarge
-unfolding number_of
-returns-in-TooLarge c =
-    rw c.in-TooLarge.is
-
-pub returns-in-Unguarded : goal.returns-in-Unguarded
-unfolding number_of
-returns-in-Unguarded c =
-    rw c.in-Unguarded.is
-
-pub returns-in-ExceptOnCycle : goal.returns-in-ExceptOnCycle
-unfolding number_of
-returns-in-ExceptOnCycle c =
-    rw c.in-ExceptOnCycle.is
-
-pub returns-in-NoSuchStart : goal.returns-in-NoSuchStart
-unfolding number_of
-returns-in-NoSuchStart c =
-    rw c.in-NoSuchStart.is
-
-pub returns-in-NoSuchNumber : goal.returns-in-NoSuchNumber
-unfolding number_of
-returns-in-NoSuchNumber c =
-    rw c.in-NoSuchNumber.is
-
-pub returns-in-TooDeep : goal.returns-in-TooDeep
-unfolding number_of
-returns-in-TooDeep c =
-    rw c.in-TooDeep.is
-
-pub returns-in-NoRoom : goal.returns-in-NoRoom
-unfolding number_of
-returns-in-NoRoom c =
-    rw c.in-NoRoom.is
-
-pub returns-in-NotACase : goal.returns-in-NotACase
-unfolding number_of
-returns-in-NotACase c =
-    rw c.in-NotACase.is
-
-pub returns-in-NumberTooLarge : goal.returns-in-NumberTooLarge
-unfolding number_of
-returns-in-NumberTooLarge c =
-    rw c.in-NumberTooLarge.is
+pub returns : goal.returns
+returns c = given c.args.refusal

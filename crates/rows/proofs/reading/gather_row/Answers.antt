@@ -2,7 +2,7 @@ use native.Mathlib.Omega.{arith}
 use Rattle.std.proofs.lemmas.Result.{err_from_is_err_and}
 use Rattle.checked.proofs.Standing.{stood}
 use Rattle.rows.proofs.Outcomes.{found_ok}
-use Rattle.rows.proofs.Gathering.{storing_none, same_length, storing_more, storing_full, storing_stops, storing_done}
+use Rattle.rows.proofs.Gathering.{storing_none, storing_more, storing_full, storing_stops, storing_done}
 use Rattle.rows.proofs.reading.gather_row.Goals as goal
 
 pub loop-at-init : goal.loop-at-init
@@ -12,21 +12,21 @@ loop-at-init c =
 pub returns-then-room-items : goal.returns-then-room-items
 returns-then-room-items c =
     let stands = found_ok _ _ c.at_item.ensures c.in_ok-item.was in
-    rw c.at_item-then-room-items.ensures (storing_full _ _ c.loop-at.invariant c.loop-at-test.true c.item_at.ensures stands c.if-room-items.true)
+    rw c.at_item-then-room-items.ensures (storing_full _ _ c.loop-at.invariant c.loop-at-test.true c.item.ensures stands c.if-room-items.true)
 
 pub loop-at-smaller : goal.loop-at-smaller
 loop-at-smaller c =
-    let s = stood c.item_at.ensures (found_ok _ _ c.at_item.ensures c.in_ok-item.was) in omega arith
+    let s = stood c.item.ensures (found_ok _ _ c.at_item.ensures c.in_ok-item.was) in omega arith
 
 pub loop-at-preserved : goal.loop-at-preserved
 loop-at-preserved c =
     let stands = found_ok _ _ c.at_item.ensures c.in_ok-item.was in
-    storing_more _ _ c.loop-at.invariant c.loop-at-test.true c.item_at.ensures stands c.if-room-items.false c.keep.ensures
+    storing_more _ _ c.loop-at.invariant c.loop-at-test.true c.item.ensures stands c.if-room-items.false c.keep.ensures
 
 pub returns-in_err-item : goal.returns-in_err-item
 returns-in_err-item c =
     let p = err_from_is_err_and c.from_residual.result c.from_residual.ensures.1 in
-    rw (p.1, p.2) (storing_stops _ _ c.loop-at.invariant c.loop-at-test.true c.item_at.ensures c.at_item.ensures c.in_err-item.was)
+    rw (p.1, p.2) (storing_stops _ _ c.loop-at.invariant c.loop-at-test.true c.item.ensures c.at_item.ensures c.in_err-item.was)
 
 pub returns : goal.returns
 returns c =

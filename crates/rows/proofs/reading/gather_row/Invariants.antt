@@ -2,12 +2,12 @@
 -- Assumes nothing.
 use Prim.Native.Nat.{◌-◌}
 use lib.ListN.{length}
-use Rattle.grammar.specs.Plan.{rule_in}
+use Rattle.checked.specs.Opened.{rules}
 use Rattle.rows.proofs.Gathering.{Storing}
 use Rattle.rows.proofs.reading.gather_row.Given as goal
 
 abbrev pub invariant-loop-at : goal.invariant-loop-at
-invariant-loop-at l = Storing (rule_in l.plan l.pool) l.start l.room l.cells l.initial.out l.out l.at l.items
+invariant-loop-at l = Storing (rules l.opened) l.opened.start l.room l.cells l.initial.out l.out l.at l.items
 
 abbrev pub decreases-loop-at : goal.decreases-loop-at
 decreases-loop-at l = length l.cells - l.at

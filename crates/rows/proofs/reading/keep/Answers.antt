@@ -4,10 +4,10 @@ use mathlib.Core.Path.{refl, sym}
 use lib.Seq.{set_out}
 use Rattle.rows.proofs.reading.keep.Goals as goal
 
-pub returns-then-items-out : goal.returns-then-items-out
-returns-then-items-out c =
+pub returns-then-item-out : goal.returns-then-item-out
+returns-then-item-out c =
     refl
 
-pub returns-else-items-out : goal.returns-else-items-out
-returns-else-items-out c =
-    sym (set_out _ _ _ c.if-items-out.false)
+pub returns-else-item-out : goal.returns-else-item-out
+returns-else-item-out c =
+    sym (set_out _ _ _ c.if-item-out.false)

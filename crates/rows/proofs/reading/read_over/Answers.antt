@@ -1,8 +1,8 @@
--- `rows::reading::read_items` decides over a buffer of its own, and stores only the numbers of a row that can be read.
+-- `rows::reading::read_over` decides over a buffer of its own, and stores only the numbers of a row that can be read.
 -- Assumes nothing.
 use Rattle.std.proofs.lemmas.Result.{err_from_is_err_and}
 use Rattle.rows.proofs.Gathering.{items_not, items_few, items_kept, items_again}
-use Rattle.rows.proofs.reading.read_items.Goals as goal
+use Rattle.rows.proofs.reading.read_over.Goals as goal
 
 pub copy-requires : goal.copy-requires
 copy-requires c =
