@@ -7,6 +7,7 @@ use mathlib.Core.List.{List}
 use Prim.Native.Nat.{ℕ}
 use lib.ListN.{length}
 use Rattle.std.specs.Prelude.{Result, Ok, Err}
+use Rattle.grammar.specs.declared.entry.Entry.{Entry}
 use Rattle.grammar.specs.Refusals.{Verdict, refused}
 use Rattle.grammar.specs.declared.refusal.Refusal.{Refusal}
 use Rattle.grammar.specs.declared.refusal.Refused.{Refused}
@@ -20,7 +21,7 @@ use Rattle.cases.specs.Read.{found, reads, read_of, read_says}
 use Rattle.cases.specs.Write.{wrote, writes, written, write_says, Wrote}
 
 -- ---- read
-module _ {t p plan : List ℕ} {i : ℕ} {v : Verdict} (h : Opens t p plan i v) (cs : List ℕ) where
+module _ {t p : List ℕ} {plan : List Entry} {i : ℕ} {v : Verdict} (h : Opens t p plan i v) (cs : List ℕ) where
   pub read_refused : {e : Refused} → v ≡ Err e → read_of (Err e) ≡ read_says t p i cs
   unfolding reads read_says
   read_refused q = rw (← h.is, q)
@@ -39,7 +40,7 @@ module _ {t p plan : List ℕ} {i : ℕ} {v : Verdict} (h : Opens t p plan i v) 
     read_not q = rw (read_is, stood w q)
 
 -- ---- write
-module _ {t p plan : List ℕ} {i : ℕ} {v : Verdict} (h : Opens t p plan i v) {n : ℕ} {old : List ℕ} where
+module _ {t p : List ℕ} {plan : List Entry} {i : ℕ} {v : Verdict} (h : Opens t p plan i v) {n : ℕ} {old : List ℕ} where
   pub wrote_refused : {e : Refused} → v ≡ Err e → Wrote t p i n old old (Err e)
   unfolding writes write_says
   wrote_refused q = record { says = rw (← h.is, q); holds = refl }

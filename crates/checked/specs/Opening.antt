@@ -6,6 +6,7 @@
 -- Assumes nothing.
 use Rattle.std.specs.Prelude.{◌≡◌, List, ℕ, ltb, Ok, Err}
 use Rattle.numbers.specs.Pick.{pick}
+use Rattle.grammar.specs.declared.entry.Entry.{Entry}
 use Rattle.grammar.specs.Table.{nodes}
 use Rattle.grammar.specs.Sizes.{rules_of}
 use Rattle.grammar.specs.Plan.{rule_in}
@@ -23,10 +24,10 @@ judged refuses (Err e) x = refuses e
 unfoldable pub opening : List ℕ → List ℕ → ℕ → Verdict
 opening t p i = judged Err (verdict t p) (pick (ltb i (nodes t)) accepted (refused NoSuchStart 0))
 
-pub record Opened (t p plan : List ℕ) (i : ℕ) : Type 0 where
+pub record Opened (t p : List ℕ) (plan : List Entry) (i : ℕ) : Type 0 where
   pub reads : Reading plan p i
   pub rules : rule_in plan p ≡ rules_of t p
 
-pub record Opens (t p plan : List ℕ) (i : ℕ) (v : Verdict) : Type 0 where
+pub record Opens (t p : List ℕ) (plan : List Entry) (i : ℕ) (v : Verdict) : Type 0 where
   pub is : v ≡ opening t p i
   pub ready : v ≡ accepted → Opened t p plan i

@@ -55,8 +55,10 @@ fn case_at<'a>(
     let row = &cells[at..at + few];
     let mut used: usize = 0;
     let lent = Lent { pool, plan };
-    let read = take(&lent, start, &row, DEPTH, 0, &mut used);
-    let number = read.result().map_err(|unread| why(unread, MOST_CELLS <= left))?;
+    let number = match take(&lent, start, &row, DEPTH, 0, &mut used).result() {
+        Ok(number) => number,
+        Err(unread) => return Err(why(unread, MOST_CELLS <= left)),
+    };
     let next = at + used;
     if whole {
         if next < cells.len() {
@@ -64,8 +66,13 @@ fn case_at<'a>(
         }
     }
     match number {
-        Some(number) if number < LARGEST => Ok(Item { number, next }),
-        _ => Err(Refusal::NumberTooLarge),
+        Some(number) => {
+            if LARGEST <= number {
+                return Err(Refusal::NumberTooLarge);
+            }
+            Ok(Item { number, next })
+        }
+        None => Err(Refusal::NumberTooLarge),
     }
 }
 

@@ -9,6 +9,7 @@ use Prim.Native.Nat.{ℕ, ◌+◌, ◌-◌, ◌≤◌, ◌<◌}
 use native.Mathlib.Nat.{not-suc-le-zero}
 use native.Mathlib.Omega.{arith}
 use lib.ListN.{length, drop, length-drop, drop_of_length-le}
+use Rattle.grammar.specs.declared.entry.Entry.{Entry}
 use Rattle.grammar.specs.declared.refusal.Refusal.{Refusal}
 use Rattle.grammar.specs.declared.refusal.Refused.{Refused}
 use Rattle.std.specs.Prelude.{Result, Ok, Err}
@@ -27,7 +28,7 @@ use Rattle.rows.specs.declared.answer.Row.{Row}
 use Rattle.rows.specs.declared.answer.RowRefused.{RowRefused}
 
 -- ---- write_row
-module _ {t p plan : List ℕ} {i : ℕ} {v : Verdict} (h : Opens t p plan i v) (ns old : List ℕ) where
+module _ {t p : List ℕ} {plan : List Entry} {i : ℕ} {v : Verdict} (h : Opens t p plan i v) (ns old : List ℕ) where
   pub row_refused : {e : Refused} → v ≡ Err e → WroteRow t p i ns old old (at_first e)
   unfolding writes_row write_row_says
   row_refused q = record { says = rw (← h.is, q); holds = refl }
@@ -49,7 +50,7 @@ module _ {t p plan : List ℕ} {i : ℕ} {v : Verdict} (h : Opens t p plan i v) 
         rw s (record { says = ap row_answer (sym (row_is ∙ q)); holds = rw (← (h.ready a).rules) (f.holds d.items d.cells s) })
 
 -- ---- read_row
-module _ {t p plan : List ℕ} {i : ℕ} {v : Verdict} (h : Opens t p plan i v) {cs old : List ℕ} where
+module _ {t p : List ℕ} {plan : List Entry} {i : ℕ} {v : Verdict} (h : Opens t p plan i v) {cs old : List ℕ} where
   pub got_refused : {e : Refused} → v ≡ Err e → GotRow t p i cs old old (at_first e)
   unfolding reads_row read_row_says
   got_refused q = record { says = rw (← h.is, q); holds = refl }
@@ -64,7 +65,7 @@ unfolding next
 next_some g i [] l = absurd (not-suc-le-zero l)
 next_some g i (c ∷ cs) l = refl
 
-module _ {t p plan : List ℕ} {i : ℕ} {v : Verdict} (h : Opens t p plan i v) (row : List ℕ) (at : ℕ) where
+module _ {t p : List ℕ} {plan : List Entry} {i : ℕ} {v : Verdict} (h : Opens t p plan i v) (row : List ℕ) (at : ℕ) where
   pub next_refused : {e : Refused} → v ≡ Err e → Err e ≡ next_of t p i row at
   unfolding next_of
   next_refused q = rw (← h.is, q)

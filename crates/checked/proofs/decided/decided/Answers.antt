@@ -2,26 +2,9 @@
 -- Assumes nothing.
 use mathlib.Core.Path.{sym, ◌∙◌}
 use native.Mathlib.Omega.{arith}
-use Rattle.walk.proofs.Nodes.{in_plan}
 use Rattle.walk.proofs.Rooms.{left_within}
 use Rattle.checked.proofs.Fitting.{may, visits_of, decided_12, decided_walk}
 use Rattle.checked.proofs.decided.decided.Goals as goal
-
-pub overflow_mul-start : goal.overflow_mul-start
-overflow_mul-start c =
-    let q = in_plan c.requires in omega arith
-
-pub overflow_add-start : goal.overflow_add-start
-overflow_add-start c =
-    let q = in_plan c.requires in omega arith
-
-pub offset_bounds-plan-start : goal.offset_bounds-plan-start
-offset_bounds-plan-start c =
-    let q = in_plan c.requires in omega arith
-
-pub bounds-plan-start : goal.bounds-plan-start
-bounds-plan-start c =
-    let q = in_plan c.requires in omega arith
 
 pub tally-requires : goal.tally-requires
 tally-requires c =
