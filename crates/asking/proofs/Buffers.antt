@@ -20,6 +20,7 @@ use Rattle.lists.proofs.Fills.{over_back}
 use Rattle.texts.proofs.Fronts.{front_more, front_length}
 use Rattle.texts.specs.Ascii.{bytes}
 use Rattle.asking.specs.Buffer.{start_word, start_words, changed}
+use Rattle.texts.specs.declared.page.Page.{Page}
 use Rattle.texts.specs.Page.{Puts}
 use Rattle.asking.specs.Texts.{end_text}
 
@@ -47,30 +48,22 @@ pub fill_none : {old : List ℕ} → Filling old old 0
 fill_none = record { few = omega arith; so_far = refl }
 
 module _ {old now : List ℕ} {i : ℕ} (s : Filling old now i) where
-  pub fill_same : length now ≡ length old
-  fill_same = ap length s.so_far ∙ front_length (start_words 0 (length old)) old i (omega (arith, s.few, start_length 0 (length old))) s.few
-
-  pub fill_more : i < length now → {w : ℕ} → w ≡ start_word i → Filling old (set now i w) (i + 1)
-  fill_more h {w} e =
-      let l : i < length old = omega (arith, fill_same) in
+  pub fill_more : i < length old → {w : ℕ} → w ≡ start_word i → Filling old (set now i w) (i + 1)
+  fill_more l {w} e =
       record {
         few = omega arith;
         so_far = rw s.so_far (front_more (start_words 0 (length old)) old i w (omega (arith, start_length 0 (length old))) l
             (e ∙ let z : 0 + i ≡ i = omega arith in sym (rw z at (start_at 0 (length old) i l))));
       }
 
-  pub fill_all : length now ≤ i → now ≡ start_words 0 (length old)
-  fill_all h =
-      let l : length old ≤ i = omega (arith, fill_same) in
+  pub fill_all : length old ≤ i → now ≡ start_words 0 (length old)
+  fill_all l =
       let e = take_all i (start_words 0 (length old)) (omega (arith, start_length 0 (length old))) in
       s.so_far ∙ rw (e, drop_of_length-le old {i = i} l) (append-nil (start_words 0 (length old)))
 
 -- ---- words that have not changed
 pub record Looking (buffer : List ℕ) (from i : ℕ) : Type 0 where
   pub rest : changed from (drop from buffer) ≡ changed i (drop i buffer)
-
-pub look_none : {buffer : List ℕ} {from : ℕ} → Looking buffer from from
-look_none = record { rest = refl }
 
 module _ {buffer : List ℕ} {from i : ℕ} (s : Looking buffer from i) where
   at_word : i < length buffer → {b : Bool} → eqb (get_or buffer i 0) (start_word i) ≡ b
@@ -104,12 +97,12 @@ start_kept : (count k : ℕ) → changed k (drop k (start_words 0 count)) ≡ fa
 start_kept count k = let e : 0 + k ≡ k = omega arith in rw e at (kept_from 0 count k)
 
 -- ---- the end of a line
-module _ (buffer : List ℕ) (from : ℕ) {b : Bool} (e : b ≡ changed from (drop from buffer)) {old last : List ℕ} {used r : ℕ} where
-  pub end_changed : b ≡ true → Puts (bytes " CHANGED\n") old used last r → Puts (end_text buffer from) old used last r
+module _ (buffer : List ℕ) (from : ℕ) {b : Bool} (e : b ≡ changed from (drop from buffer)) {old last : Page} where
+  pub end_changed : b ≡ true → Puts (bytes " CHANGED\n") old last → Puts (end_text buffer from) old last
   unfolding end_text
   end_changed t p = rw (← e, t) p
 
-  pub end_kept : b ≡ false → Puts (bytes "\n") old used last r → Puts (end_text buffer from) old used last r
+  pub end_kept : b ≡ false → Puts (bytes "\n") old last → Puts (end_text buffer from) old last
   unfolding end_text
   end_kept t p = rw (← e, t) p
 

@@ -7,14 +7,13 @@
 --   TakesCells, TakesRow   what taking them answers, and the words that hold the fields then
 --   CellsCall, LentCall    what a call of either form puts on the page, and leaves in what is lent to it
 -- Assumes nothing.
-use Rattle.std.specs.Prelude.{◌≡◌, cond, ◌&&◌, List, [], ◌∷◌, ℕ, ◌-◌, ◌≤◌, leb, length, take, drop}
+use Rattle.std.specs.Prelude.{◌≡◌, cond, ◌&&◌, List, [], ◌∷◌, ℕ, ◌-◌, ◌≤◌, leb, length, take, drop, Option, Some, None}
 use Rattle.texts.specs.Line.{Reading, numbers, unreadable, line_at, within, stored}
 use Rattle.texts.specs.Page.{Puts}
 use Rattle.texts.specs.Said.{unreadable_text}
 use Rattle.asking.specs.declared.fields.Cells.{Cells}
-use Rattle.asking.specs.declared.fields.Cells.TheVariants.{Asked, Unreadable}
 use Rattle.asking.specs.declared.fields.Lent.{Lent}
-use Rattle.asking.specs.declared.fields.Lent.TheVariants.{Asked as AskedRoom, Unreadable as NoLine}
+use Rattle.texts.specs.declared.page.Page.{Page}
 
 abbrev pub most_row : ℕ
 most_row = 70000
@@ -59,35 +58,35 @@ with_row f (row i room ws) = f i room ws
 with_row f no_row = unreadable_text
 
 -- ---- what an answer stands for, with the words that hold the fields; and how many they are
-abbrev pub cells_in : List ℕ → Cells → CellsAsked
-cells_in words (Asked i count) = cells i (take (count - 1) (drop 1 words))
-cells_in words Unreadable = no_cells
+abbrev pub cells_in : List ℕ → Option Cells → CellsAsked
+cells_in words (Some c) = cells c.start (take (c.count - 1) (drop 1 words))
+cells_in words None = no_cells
 
-abbrev pub CellsFit : Cells → Type 0
-CellsFit (Asked i count) = (1 ≤ count) × (count ≤ most_fields)
-CellsFit Unreadable = Unit {0}
+abbrev pub CellsFit : Option Cells → Type 0
+CellsFit (Some c) = (1 ≤ c.count) × (c.count ≤ most_fields)
+CellsFit None = Unit {0}
 
-pub record TakesCells (rest old last : List ℕ) (r : Cells) : Type 0 where
+pub record TakesCells (rest old last : List ℕ) (r : Option Cells) : Type 0 where
   pub asks : cells_in last r ≡ cells_of (fields_of rest)
   pub fits : CellsFit r
   pub leaves : last ≡ stored old (within (length old) (fields_of rest))
 
-abbrev pub row_in : List ℕ → Lent → RowAsked
-row_in words (AskedRoom i room count) = row i room (take (count - 2) (drop 2 words))
-row_in words NoLine = no_row
+abbrev pub row_in : List ℕ → Option Lent → RowAsked
+row_in words (Some l) = row l.start l.room (take (l.count - 2) (drop 2 words))
+row_in words None = no_row
 
-abbrev pub RowFits : Lent → Type 0
-RowFits (AskedRoom i room count) = (2 ≤ count) × (count ≤ most_fields) × (room ≤ most_room)
-RowFits NoLine = Unit {0}
+abbrev pub RowFits : Option Lent → Type 0
+RowFits (Some l) = (2 ≤ l.count) × (l.count ≤ most_fields) × (l.room ≤ most_room)
+RowFits None = Unit {0}
 
-pub record TakesRow (rest old last : List ℕ) (r : Lent) : Type 0 where
+pub record TakesRow (rest old last : List ℕ) (r : Option Lent) : Type 0 where
   pub asks : row_in last r ≡ row_of (fields_of rest)
   pub fits : RowFits r
   pub leaves : last ≡ stored old (within (length old) (fields_of rest))
 
 -- ---- the whole call
-pub record CellsCall (text rest fields fields' page : List ℕ) (used : ℕ) (page' : List ℕ) (r : ℕ) : Type 0 where
-  pub puts : Puts text page used page' r
+pub record CellsCall (text rest fields fields' : List ℕ) (page page' : Page) : Type 0 where
+  pub puts : Puts text page page'
   pub leaves : fields' ≡ stored fields (within (length fields) (fields_of rest))
 
 -- the lent buffer, by START, ROOM, the row and its words before
@@ -95,8 +94,7 @@ abbrev pub lent_by : (ℕ → ℕ → List ℕ → List ℕ → List ℕ) → Ro
 lent_by f (row i room ws) old = f i room ws old
 lent_by f no_row old = old
 
-pub record LentCall (text : List ℕ) (f : ℕ → ℕ → List ℕ → List ℕ → List ℕ) (rest fields fields' buffer buffer' page : List ℕ) (used : ℕ) (page' : List ℕ)
-    (r : ℕ) : Type 0 where
-  pub puts : Puts text page used page' r
+pub record LentCall (text : List ℕ) (f : ℕ → ℕ → List ℕ → List ℕ → List ℕ) (rest fields fields' buffer buffer' : List ℕ) (page page' : Page) : Type 0 where
+  pub puts : Puts text page page'
   pub leaves : fields' ≡ stored fields (within (length fields) (fields_of rest))
   pub lent : buffer' ≡ lent_by f (row_of (fields_of rest)) buffer

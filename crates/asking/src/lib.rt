@@ -3,5 +3,5 @@
 
 pub mod answers;
 pub mod buffer;
+pub mod calls;
 pub mod fields;
-pub mod same;

@@ -2,17 +2,15 @@
 // a sum of all its answers is printed. A workload is ten times the number of a grammar and the number of a task.
 #![tactic(auto)]
 
+mod job;
 mod row;
 mod single;
 
 use bench_tables::draw::mixed_all;
-use bench_tables::tables::{MOST_POOL_WORDS, MOST_TABLE_WORDS, Shape, laid_out};
-use texts::line::{Line, numbers_at};
-
-// The streams' numbers, as the system has them.
-const STDIN_FILENO: i32 = 0;
-
-const STDOUT_FILENO: i32 = 1;
+use bench_tables::tables::{MOST_POOL_WORDS, MOST_TABLE_WORDS, Words};
+use job::Job;
+use texts::line::numbers_at;
+use texts::streams::{STDIN_FILENO, STDOUT_FILENO};
 
 const MOST_CELLS: usize = 65536;
 
@@ -22,148 +20,77 @@ const MOST_BYTES: usize = 4096;
 
 const MOST_LINES: usize = 256;
 
-// One task of a grammar whose words stand at the front of the lent ones.
-fn done_with(
-    task: u64,
-    table: &mut [u64],
-    pool: &[u64],
-    kind: u64,
-    start: usize,
-    limit: u64,
-    cells: &mut [u64],
-    times: usize,
-) -> u64 {
-    match task {
-        0 => single::check_often(table, pool, kind, times),
-        1 => single::write_often(table, pool, kind, start, limit, cells, times),
-        _ => single::read_often(table, pool, kind, start, limit, cells, times),
+// What is done again and again; a task on a row has so many items.
+#[derive(Clone, Copy, Debug, PartialEq, Eq)]
+enum Task {
+    Check,
+    Write,
+    Read,
+    WriteRow(usize),
+    ReadRow(usize),
+    Ask(usize),
+}
+
+impl From<u64> for Task {
+    fn from(number: u64) -> Task {
+        match number {
+            0 => Task::Check,
+            1 => Task::Write,
+            2 => Task::Read,
+            3 => Task::WriteRow(1000),
+            4 => Task::ReadRow(1000),
+            5 => Task::Ask(1000),
+            6 => Task::Ask(125),
+            _ => Task::Ask(8000),
+        }
     }
 }
 
-fn row_done_with(
-    task: u64,
-    table: &mut [u64],
-    pool: &[u64],
-    kind: u64,
-    start: usize,
-    numbers: &mut [u64],
-    cells: &mut [u64],
-    times: usize,
-) -> u64 {
-    row::draw_short(numbers);
-    match task {
-        3 => row::write_often(table, pool, kind, start, numbers, cells, times),
-        4 => row::read_often(table, pool, kind, start, numbers, cells, times),
-        _ => row::ask_often(table, pool, kind, start, numbers, cells, times),
+// The words that all workloads are lent.
+#[derive(Drop)]
+struct Desk<'a> {
+    table: &'a mut [u64],
+    pool: &'a mut [u64],
+    numbers: &'a mut [u64],
+    cells: &'a mut [u64],
+}
+
+impl<'a> Desk<'a> {
+    // A sum of all answers of a workload, and of the words that it leaves.
+    fn run(&mut self, workload: u64, times: usize) -> u64 {
+        let table = &mut *self.table;
+        let pool = &mut *self.pool;
+        let numbers = &mut *self.numbers;
+        let cells = &mut *self.cells;
+        let sum = answers(workload, times, Words { table, pool }, numbers, cells);
+        mixed_all(mixed_all(sum, cells), numbers)
     }
 }
 
-// As many items as a task's row has.
-fn items_of(task: u64) -> usize {
-    match task {
-        6 => 125,
-        7 => 8000,
-        _ => 1000,
-    }
-}
-
-fn row_lent(
-    task: u64,
-    table: &mut [u64],
-    pool: &[u64],
-    kind: u64,
-    start: usize,
-    numbers: &mut [u64],
-    cells: &mut [u64],
-    times: usize,
-) -> u64 {
-    let items = items_of(task);
-    if numbers.len() < items {
-        return 0;
-    }
-    row_done_with(
-        task,
-        table,
-        pool,
-        kind,
-        start,
-        &mut numbers[..items],
-        cells,
-        times,
-    )
-}
-
-fn on_table(
-    task: u64,
-    table: &mut [u64],
-    pool: &[u64],
-    kind: u64,
-    start: usize,
-    limit: u64,
-    numbers: &mut [u64],
-    cells: &mut [u64],
-    times: usize,
-) -> u64 {
-    if task < 3 {
-        return done_with(task, table, pool, kind, start, limit, cells, times);
-    }
-    row_lent(task, table, pool, kind, start, numbers, cells, times)
-}
-
-// Lends the words that the grammar takes.
-fn lent(
-    task: u64,
-    shape: Shape,
-    kind: u64,
-    table: &mut [u64],
-    pool: &[u64],
-    numbers: &mut [u64],
-    cells: &mut [u64],
-    times: usize,
-) -> u64 {
-    let nodes = shape.nodes;
-    let words = shape.words;
-    if table.len() / 3 < nodes {
-        return 0;
-    }
-    if pool.len() < words {
-        return 0;
-    }
-    let end = 3 * nodes;
-    on_table(
-        task,
-        &mut table[..end],
-        &pool[..words],
-        kind,
-        shape.start,
-        shape.limit,
-        numbers,
-        cells,
-        times,
-    )
-}
-
-fn run(
+fn answers(
     workload: u64,
     times: usize,
-    table: &mut [u64; MOST_TABLE_WORDS],
-    pool: &mut [u64; MOST_POOL_WORDS],
-    numbers: &mut [u64; MOST_ITEMS],
-    cells: &mut [u64; MOST_CELLS],
+    mut words: Words,
+    numbers: &mut [u64],
+    cells: &mut [u64],
 ) -> u64 {
-    let shape = laid_out(workload / 10, table, pool);
-    let kind = table[0];
-    let sum = lent(
-        workload % 10,
-        shape,
-        kind,
-        table,
-        pool,
-        numbers,
-        cells,
-        times,
-    );
-    mixed_all(mixed_all(sum, cells), numbers)
+    let shape = words.lay(workload / 10);
+    let Words { table, pool } = words;
+    match Job::of(table, pool, shape, times) {
+        Some(mut job) => done(Task::from(workload % 10), &mut job, numbers, cells),
+        None => 0,
+    }
+}
+
+fn done(task: Task, job: &mut Job, numbers: &mut [u64], cells: &mut [u64]) -> u64 {
+    match task {
+        Task::Check => single::check_often(job),
+        Task::Write => single::write_often(job, cells),
+        Task::Read => single::read_often(job, cells),
+        Task::WriteRow(items) => row::write_often(job, row::drawn(numbers, items), cells),
+        Task::ReadRow(items) => row::read_often(job, row::drawn(numbers, items), cells),
+        Task::Ask(items) => row::ask_often(job, row::drawn(numbers, items), cells),
+    }
 }
 
 fn say(workload: u64, sum: u64) {
@@ -173,70 +100,38 @@ fn say(workload: u64, sum: u64) {
     io::write_all(STDOUT_FILENO, b"\n");
 }
 
-// The place after the line at a place, 0 where there is no such line.
-fn answer_line(
-    text: &[u8],
-    at: usize,
-    fields: &mut [u64; 2],
-    table: &mut [u64; MOST_TABLE_WORDS],
-    pool: &mut [u64; MOST_POOL_WORDS],
-    numbers: &mut [u64; MOST_ITEMS],
-    cells: &mut [u64; MOST_CELLS],
-) -> usize {
-    match numbers_at(text, at, fields) {
-        Line::Numbers(_, next) => {
-            let workload = fields[0];
-            let times = fields[1] as usize;
-            say(workload, run(workload, times, table, pool, numbers, cells));
-            next
-        }
-        Line::Unreadable => 0,
-    }
-}
-
-fn answer_all(
-    text: &[u8],
-    fields: &mut [u64; 2],
-    table: &mut [u64; MOST_TABLE_WORDS],
-    pool: &mut [u64; MOST_POOL_WORDS],
-    numbers: &mut [u64; MOST_ITEMS],
-    cells: &mut [u64; MOST_CELLS],
-) {
-    let mut at: usize = 0;
-    for i in 0..MOST_LINES {
-        at = answer_line(text, at, fields, table, pool, numbers, cells);
-        if at == 0 {
+// Lines that cannot be read end the input.
+fn answer_all(text: &[u8], desk: &mut Desk) {
+    let mut at = 0;
+    for _ in 0..MOST_LINES {
+        let mut fields = [0u64; 2];
+        let Some(line) = numbers_at(text, at, &mut fields) else {
             return;
-        }
+        };
+        let [workload, times] = fields;
+        say(workload, desk.run(workload, times as usize));
+        at = line.next;
     }
 }
 
-fn answer_input(
-    room: &mut [u8; MOST_BYTES],
-    fields: &mut [u64; 2],
-    table: &mut [u64; MOST_TABLE_WORDS],
-    pool: &mut [u64; MOST_POOL_WORDS],
-    numbers: &mut [u64; MOST_ITEMS],
-    cells: &mut [u64; MOST_CELLS],
-) {
+// The words are lent, and not this function's own: of a local array a proof writes out every word.
+fn answer_input(room: &mut [u8; MOST_BYTES], desk: &mut Desk) {
     let size = io::read_full(STDIN_FILENO, room);
     let text: &[u8] = room;
-    answer_all(&text[..size], fields, table, pool, numbers, cells);
+    answer_all(&text[..size], desk);
 }
 
 fn main() {
     let mut room = [0u8; MOST_BYTES];
-    let mut fields = [0u64; 2];
     let mut table = [0u64; MOST_TABLE_WORDS];
     let mut pool = [0u64; MOST_POOL_WORDS];
     let mut numbers = [0u64; MOST_ITEMS];
     let mut cells = [0u64; MOST_CELLS];
-    answer_input(
-        &mut room,
-        &mut fields,
-        &mut table,
-        &mut pool,
-        &mut numbers,
-        &mut cells,
-    );
+    let mut desk = Desk {
+        table: &mut table,
+        pool: &mut pool,
+        numbers: &mut numbers,
+        cells: &mut cells,
+    };
+    answer_input(&mut room, &mut desk);
 }

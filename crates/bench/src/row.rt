@@ -1,5 +1,6 @@
 // Workloads on rows of short cases.
-use super::single::{refused, touch};
+use super::job::Job;
+use super::single::refused;
 use bench_tables::draw::{drawn_below, mixed, word_at};
 use grammar::refusal::Refused;
 use rows::Next;
@@ -7,72 +8,46 @@ use rows::Next;
 // Numbers below this have short cases.
 const SHORT: u64 = 100;
 
-pub fn draw_short(numbers: &mut [u64]) {
-    for i in 0..numbers.len() {
-        numbers[i] = drawn_below(i as u64, SHORT);
+// So many numbers of short cases, at the front of the lent ones.
+pub fn drawn(numbers: &mut [u64], items: usize) -> &mut [u64] {
+    let numbers = numbers.get_mut(..items).unwrap_or(&mut []);
+    for (i, number) in numbers.iter_mut().enumerate() {
+        *number = drawn_below(i as u64, SHORT);
     }
+    numbers
 }
 
 // The cells used, 0 where the row is refused.
-fn written(table: &[u64], pool: &[u64], start: usize, numbers: &[u64], cells: &mut [u64]) -> usize {
-    match rows::write_row(table, pool, start, numbers, cells) {
+fn written(job: &Job, numbers: &[u64], cells: &mut [u64]) -> usize {
+    match rows::write_row(job.table, job.pool, job.start, numbers, cells) {
         Ok(row) => row.cells,
         Err(_) => 0,
     }
 }
 
-pub fn write_often(
-    table: &mut [u64],
-    pool: &[u64],
-    kind: u64,
-    start: usize,
-    numbers: &[u64],
-    cells: &mut [u64],
-    times: usize,
-) -> u64 {
-    let mut sum = 0;
-    for k in 0..times {
-        touch(table, kind);
-        let used = written(table, pool, start, numbers, cells);
-        sum = mixed(mixed(sum, used as u64), word_at(cells, k % 1024));
-    }
-    sum
+pub fn write_often(job: &mut Job, numbers: &[u64], cells: &mut [u64]) -> u64 {
+    let times = job.times;
+    job.turns(times, |job, sum, k| {
+        let used = written(job, numbers, cells);
+        mixed(mixed(sum, used as u64), word_at(cells, k % 1024))
+    })
 }
 
-fn read_front(
-    table: &[u64],
-    pool: &[u64],
-    start: usize,
-    cells: &[u64],
-    used: usize,
-    numbers: &mut [u64],
-) -> u64 {
-    if cells.len() < used {
-        return 0;
-    }
-    match rows::read_row(table, pool, start, &cells[..used], numbers) {
+fn taken(job: &Job, row: &[u64], numbers: &mut [u64]) -> u64 {
+    match rows::read_row(job.table, job.pool, job.start, row, numbers) {
         Ok(row) => row.items as u64,
         Err(e) => mixed(refused(e.refusal, e.node), e.item as u64),
     }
 }
 
-pub fn read_often(
-    table: &mut [u64],
-    pool: &[u64],
-    kind: u64,
-    start: usize,
-    numbers: &mut [u64],
-    cells: &mut [u64],
-    times: usize,
-) -> u64 {
-    let used = written(table, pool, start, numbers, cells);
-    let mut sum = 0;
-    for k in 0..times {
-        touch(table, kind);
-        let items = read_front(table, pool, start, cells, used, numbers);
-        sum = mixed(mixed(sum, items), word_at(numbers, k % 1024));
-    }
-    sum
+pub fn read_often(job: &mut Job, numbers: &mut [u64], cells: &mut [u64]) -> u64 {
+    let used = written(job, numbers, cells);
+    let row = cells.get(..used).unwrap_or(&[]);
+    let times = job.times;
+    job.turns(times, |job, sum, k| {
+        let items = taken(job, row, numbers);
+        mixed(mixed(sum, items), word_at(numbers, k % 1024))
+    })
 }
 
 fn answer_of(answer: Result<Option<Next>, Refused>) -> u64 {
@@ -83,58 +58,19 @@ fn answer_of(answer: Result<Option<Next>, Refused>) -> u64 {
     }
 }
 
-// The reader, asked for each item.
-fn ask_all(
-    table: &mut [u64],
-    pool: &[u64],
-    kind: u64,
-    start: usize,
-    row: &[u64],
-    items: usize,
-) -> u64 {
+// The reader is asked for each item.
+pub fn ask_often(job: &mut Job, numbers: &[u64], cells: &mut [u64]) -> u64 {
+    let used = written(job, numbers, cells);
+    let row = cells.get(..used).unwrap_or(&[]);
     let mut sum = 0;
-    let mut at: usize = 0;
-    for i in 0..items {
-        touch(table, kind);
-        let stride = rows::read_at(table, pool, start, row, at);
-        let answer = stride.answer;
-        at = stride.at;
-        sum = mixed(sum, answer_of(answer));
-    }
-    sum
-}
-
-fn ask_front(
-    table: &mut [u64],
-    pool: &[u64],
-    kind: u64,
-    start: usize,
-    cells: &[u64],
-    used: usize,
-    items: usize,
-) -> u64 {
-    if cells.len() < used {
-        return 0;
-    }
-    ask_all(table, pool, kind, start, &cells[..used], items)
-}
-
-pub fn ask_often(
-    table: &mut [u64],
-    pool: &[u64],
-    kind: u64,
-    start: usize,
-    numbers: &[u64],
-    cells: &mut [u64],
-    times: usize,
-) -> u64 {
-    let used = written(table, pool, start, numbers, cells);
-    let mut sum = 0;
-    for k in 0..times {
-        sum = mixed(
-            sum,
-            ask_front(table, pool, kind, start, cells, used, numbers.len()),
-        );
+    for _ in 0..job.times {
+        let mut at = 0;
+        let asked = job.turns(numbers.len(), |job, sum, _| {
+            let stride = rows::read_at(job.table, job.pool, job.start, row, at);
+            at = stride.at;
+            mixed(sum, answer_of(stride.answer))
+        });
+        sum = mixed(sum, asked);
     }
     sum
 }

@@ -19,10 +19,7 @@ pub fn drawn(k: u64) -> u64 {
 }
 
 pub fn drawn_below(k: u64, limit: u64) -> u64 {
-    if limit == 0 {
-        return 0;
-    }
-    drawn(k) % limit
+    drawn(k).checked_rem(limit).unwrap_or(0)
 }
 
 // One more answer in the sum.
@@ -31,17 +28,10 @@ pub fn mixed(sum: u64, answer: u64) -> u64 {
 }
 
 pub fn mixed_all(sum: u64, words: &[u64]) -> u64 {
-    let mut all = sum;
-    for i in 0..words.len() {
-        all = mixed(all, words[i]);
-    }
-    all
+    words.iter().fold(sum, |all, &word| mixed(all, word))
 }
 
 // The word at a place, 0 where there is none.
 pub fn word_at(words: &[u64], at: usize) -> u64 {
-    if at < words.len() {
-        return words[at];
-    }
-    0
+    words.get(at).copied().unwrap_or(0)
 }

@@ -1,18 +1,22 @@
--- The bytes of an input, one by one.
+-- The bytes of an input and of its lines.
 --   readable_long, _none, _last    an input as a whole
---   Sizing, sizing_..              the bytes before a space or LF
+--   size_lf, size_all              how far the first line goes, by where the first LF is
+--   word_is                        the bytes before a space or LF
 -- Assumes nothing.
 use mathlib.Core.Path.{◌≡◌, refl, sym, ap, ◌∙◌}
-use mathlib.Core.Bool.{Bool, true, false}
+use mathlib.Core.Bool.{Bool, true, false, cond, not, ◌&&◌, ◌||◌}
 use mathlib.Core.List.{List, [], ◌∷◌}
 use Prim.Native.Nat.{ℕ, suc, ◌+◌, ◌-◌, ◌≤◌, ◌<◌}
-use native.Mathlib.Numerals.{add-one}
 use native.Mathlib.Omega.{arith}
 use lib.Dec.{eqb}
-use lib.ListN.{length, get_or, drop, drop_of_length-le}
-use lib.Seq.{drop-cons}
-use borrow.Author.Tests.{le-leb, lt-leb, ne_eqb}
+use lib.ListN.{length, get_or}
+use borrow.Author.Tests.{le-leb, lt-leb}
+use Rattle.std.specs.Prelude.{Option, Some, None, position, take_while}
+use Rattle.std.specs.List.{position_from}
+use Rattle.std.proofs.lemmas.Iterator.Adapters.{position_from-zero}
+use Rattle.std.proofs.lemmas.List.Sums.{take_while-cons}
 use Rattle.calling.specs.Line.{most_bytes, readable, ends, word_size}
+use Rattle.calling.specs.Input.{line_size}
 
 -- ---- an input as a whole
 pub readable_long : (text : List ℕ) → most_bytes < length text → false ≡ readable text
@@ -30,40 +34,48 @@ unfolding readable
 readable_last [] l f = absurd (f refl)
 readable_last (b ∷ bs) l f = let e : length (b ∷ bs) - 1 ≡ length bs = omega arith in rw (le-leb (length (b ∷ bs)) most_bytes l, e)
 
+-- ---- the first LF
+abbrev pub is_lf : ℕ → Bool
+is_lf b = eqb b 10
+
+lf_from : (i : ℕ) (bs : List ℕ) {k : ℕ} → position_from is_lf i bs ≡ Some k → line_size bs + i ≡ k + 1
+unfolding line_size
+lf_from i [] e = cc
+lf_from i (b ∷ bs) {k} e = by (eqb b 10) (lf_from (i + 1) bs) e
+  where
+    by : (q : Bool) → (position_from is_lf (i + 1) bs ≡ Some k → line_size bs + (i + 1) ≡ k + 1) → cond q (Some i) (position_from is_lf (i + 1) bs) ≡ Some k
+        → cond q 1 (suc (line_size bs)) + i ≡ k + 1
+    by true r f = let same : i ≡ k = cc in omega arith
+    by false r f = omega (arith, r f)
+
+lf_no : (i : ℕ) (bs : List ℕ) → position_from is_lf i bs ≡ None → line_size bs ≡ length bs
+unfolding line_size
+lf_no i [] e = refl
+lf_no i (b ∷ bs) e = by (eqb b 10) (lf_no (i + 1) bs) e
+  where
+    by : (q : Bool) → (position_from is_lf (i + 1) bs ≡ None → line_size bs ≡ length bs) → cond q (Some i) (position_from is_lf (i + 1) bs) ≡ None
+        → cond q 1 (suc (line_size bs)) ≡ length (b ∷ bs)
+    by true r f = cc
+    by false r f = ap suc (r f)
+
+module _ (bs : List ℕ) {o : Option ℕ} (e : o ≡ position is_lf bs) where
+  pub size_lf : {k : ℕ} → o ≡ Some k → line_size bs ≡ k + 1
+  size_lf f = omega (arith, lf_from 0 bs (sym (position_from-zero is_lf bs) ∙ sym e ∙ f))
+
+  pub size_all : o ≡ None → line_size bs ≡ length bs
+  size_all f = lf_no 0 bs (sym (position_from-zero is_lf bs) ∙ sym e ∙ f)
+
 -- ---- the bytes before a space or LF
-pub record Sizing (line : List ℕ) (i : ℕ) : Type 0 where
-  pub le : i ≤ length line
-  pub rest : word_size line ≡ i + word_size (drop i line)
+abbrev in_word : ℕ → Bool
+in_word b = not (eqb b 32) && not (eqb b 10)
 
-pub sizing_none : (line : List ℕ) → Sizing line 0
-sizing_none line = record { le = omega arith; rest = let e : 0 + word_size line ≡ word_size line = omega arith in sym e }
-
-size_at : (b : ℕ) (bs : List ℕ) {q : Bool} → ends b ≡ q → word_size (b ∷ bs) ≡ elim q [ true ↦ 0 | false ↦ 1 + word_size bs ]
+pub word_is : (line : List ℕ) → length (take_while (λ b. not (eqb b 32) && not (eqb b 10)) line) ≡ word_size line
 unfolding word_size
-size_at b bs h = ap (λ (q : Bool). elim q [ true ↦ 0 | false ↦ 1 + word_size bs ]) h
-
-module _ {line : List ℕ} {i : ℕ} (s : Sizing line i) where
-  pub sizing_all : length line ≤ i → i ≡ word_size line
-  unfolding word_size
-  sizing_all l = let e : i + 0 ≡ i = omega arith in sym (s.rest ∙ rw (drop_of_length-le line {i = i} l, e))
-
-  module _ (l : i < length line) where
-    at_byte : {q : Bool} → ends (get_or line i 0) ≡ q → word_size line ≡ i + elim q [ true ↦ 0 | false ↦ 1 + word_size (drop (suc i) line) ]
-    at_byte h = s.rest ∙ ap (λ (xs : List ℕ). i + word_size xs) (drop-cons line i 0 l) ∙ ap (λ (k : ℕ). i + k) (size_at (get_or line i 0) (drop (suc i) line) h)
-
-    pub sizing_ends : ends (get_or line i 0) ≡ true → i ≡ word_size line
-    sizing_ends h = let e : i + 0 ≡ i = omega arith in sym (at_byte h ∙ e)
-
-    pub sizing_more : ends (get_or line i 0) ≡ false → Sizing line (i + 1)
-    sizing_more h =
-        let e : i + (1 + word_size (drop (suc i) line)) ≡ suc i + word_size (drop (suc i) line) = omega arith in
-        rw add-one (record { le = l; rest = at_byte h ∙ e })
-
-pub ends_space : (b : ℕ) → b ≡ 32 → ends b ≡ true
-ends_space b e = rw e
-
-pub ends_lf : (b : ℕ) → (b ≡ 32 → ⊥) → b ≡ 10 → ends b ≡ true
-ends_lf b f e = rw e
-
-pub ends_not : (b : ℕ) → (b ≡ 32 → ⊥) → (b ≡ 10 → ⊥) → ends b ≡ false
-ends_not b f g = rw (ne_eqb b 32 f, ne_eqb b 10 g)
+word_is [] = refl
+word_is (b ∷ bs) = ap length (take_while-cons in_word b bs) ∙ by (eqb b 32) (eqb b 10) (word_is bs)
+  where
+    by : (p q : Bool) → length (take_while in_word bs) ≡ word_size bs
+        → length (cond (not p && not q) (b ∷ take_while in_word bs) []) ≡ elim (p || q) [ true ↦ 0 | false ↦ 1 + word_size bs ]
+    by true q r = refl
+    by false true r = refl
+    by false false r = omega (arith, r)

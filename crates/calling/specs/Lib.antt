@@ -2,4 +2,4 @@
 pub mod Line
 pub mod Calls
 pub mod Input
-pub mod State
+pub mod Desk

@@ -1,7 +1,6 @@
 // Lines of bytes: where a line ends, and the word that it starts with.
-ghost use Rattle.std.specs.Prelude.{◌≡◌, ◌≤◌, length};
+ghost use Rattle.std.specs.Prelude.{◌≡◌, ◌≤◌, ◌==◌, ◌&&◌, not, length, position, take_while};
 ghost use Rattle.calling.specs.Input.{after as after_of};
-ghost use Rattle.calling.specs.Line.{word_size};
 
 use texts::ascii::{LF, SPACE};
 
@@ -10,29 +9,24 @@ pub fn after(text: &[u8], at: usize) -> usize
     requires { at ≤ length text.now }
     ensures { result ≡ after_of text.now at }
 {
-    let mut i = at;
-    while i < text.len() {
-        if text[i] == LF {
-            return i + 1;
-        }
-        i += 1;
+    match lf_at(&text[at..]) {
+        Some(before) => at + before + 1,
+        None => text.len(),
     }
-    i
+}
+
+// Where the first LF is.
+fn lf_at(text: &[u8]) -> Option<usize>
+    ensures { result ≡ position (λ b. b == 10) text.now }
+{
+    text.iter().position(|byte| *byte == LF)
 }
 
 // How many bytes stand before the first space, or before the line's LF.
 pub fn word_size(line: &[u8]) -> usize
-    ensures { (result ≡ word_size line.now) × (result ≤ length line.now) }
+    ensures { result ≡ length (take_while (λ b. not (b == 32) && not (b == 10)) line.now) }
 {
-    let mut i = 0;
-    while i < line.len() {
-        if line[i] == SPACE {
-            return i;
-        }
-        if line[i] == LF {
-            return i;
-        }
-        i += 1;
-    }
-    i
+    line.iter()
+        .take_while(|byte| **byte != SPACE && **byte != LF)
+        .count()
 }

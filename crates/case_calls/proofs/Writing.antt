@@ -14,6 +14,7 @@ use Rattle.std.specs.Prelude.{Ok, Err}
 use Rattle.cases.specs.Write.{Written, writes, leaves, Wrote}
 use Rattle.cases.proofs.Counted.{written_size, written_cells}
 use Rattle.cases.proofs.Values.{wrote_is}
+use Rattle.texts.specs.declared.page.Page.{Page}
 use Rattle.texts.specs.Page.{Puts}
 use Rattle.texts.specs.Said.{unreadable_text, refused_text, refused_line}
 use Rattle.texts.proofs.page.Putting.{told}
@@ -30,18 +31,18 @@ module _ {t p : List ℕ} {i n : ℕ} (old : List ℕ) {filled last : List ℕ} 
   left : (w : Written) → r ≡ w → last ≡ leaves w (cells (walk (rules_of t p) depth 0 i n)) filled
   left w e = k.holds ∙ ap (λ (x : Written). leaves x (cells (walk (rules_of t p) depth 0 i n)) filled) e
 
-  prints : {page page' : List ℕ} {used s : ℕ} → Puts (case_text t p i (length old) n) page used page' s → PrintsCase t p i n old last page used page' s
+  prints : {page page' : Page} → Puts (case_text t p i (length old) n) page page' → PrintsCase t p i n old last page page'
   prints g = record { puts = g; buffer = rw (← start) (left (writes t p i n (length old)) answer) }
 
-  pub prints_done : {count : ℕ} → r ≡ Ok count → {page page' : List ℕ} {used s : ℕ}
-      → Puts (cells_text count (take count last) ++ end_text last count) page used page' s → PrintsCase t p i n old last page used page' s
+  pub prints_done : {count : ℕ} → r ≡ Ok count → {page page' : Page}
+      → Puts (cells_text count (take count last) ++ end_text last count) page page' → PrintsCase t p i n old last page page'
   unfolding case_text write_text
   prints_done {count} e g =
       let cs = cells (walk (rules_of t p) depth 0 i n) in
       prints (told (rw (← answer, e, written_cells k count e, end_done (length old) cs filled (written_size k count e) (left (Ok count) e) start)) g)
 
-  pub prints_refused : {x : Refused} → r ≡ Err x → {page page' : List ℕ} {used s : ℕ}
-      → Puts (refused_text x.refusal x.node ++ end_text last 0) page used page' s → PrintsCase t p i n old last page used page' s
+  pub prints_refused : {x : Refused} → r ≡ Err x → {page page' : Page}
+      → Puts (refused_text x.refusal x.node ++ end_text last 0) page page' → PrintsCase t p i n old last page page'
   unfolding case_text write_text refused_line
   prints_refused {x} e g = prints (told (rw (← answer, e, end_left (length old) (left (Err x) e) start)) g)
 

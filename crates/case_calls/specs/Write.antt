@@ -10,6 +10,7 @@ use Rattle.grammar.specs.Sizes.{rules_of}
 use Rattle.walk.specs.Walk.{walk, cells, depth}
 use Rattle.cases.specs.Write.{Written, writes, leaves}
 use Rattle.texts.specs.Ascii.{bytes}
+use Rattle.texts.specs.declared.page.Page.{Page}
 use Rattle.texts.specs.Page.{Puts}
 use Rattle.texts.specs.Said.{unreadable_text, refused_line}
 use Rattle.asking.specs.Fields.{fields_of, row_of, with_row}
@@ -23,8 +24,8 @@ write_text cs (Err e) = refused_line e.refusal e.node
 unfoldable pub case_text : List ℕ → List ℕ → ℕ → ℕ → ℕ → List ℕ
 case_text t p i room n = write_text (cells (walk (rules_of t p) depth 0 i n)) (writes t p i n room)
 
-pub record PrintsCase (t p : List ℕ) (i n : ℕ) (old last page : List ℕ) (used : ℕ) (page' : List ℕ) (r : ℕ) : Type 0 where
-  pub puts : Puts (case_text t p i (length old) n) page used page' r
+pub record PrintsCase (t p : List ℕ) (i n : ℕ) (old last : List ℕ) (page page' : Page) : Type 0 where
+  pub puts : Puts (case_text t p i (length old) n) page page'
   pub buffer : last ≡ leaves (writes t p i n (length old)) (cells (walk (rules_of t p) depth 0 i n)) (start_words 0 (length old))
 
 -- NUMBER, and no more

@@ -2,25 +2,18 @@
 ghost use Rattle.texts.specs.Page.{Puts};
 ghost use Rattle.case_calls.specs.Check.{check_call};
 
-use asking::same::same;
-use texts::page::{PAGE_BYTES, put_text};
-use texts::said::{refused_line, unreadable};
+use asking::calls::About;
+use texts::page::Page;
 
 // Nothing but LF stands behind its word.
-pub fn answer(
-    table: &[u64],
-    pool: &[u64],
-    rest: &[u8],
-    page: &mut [u8; PAGE_BYTES],
-    used: usize,
-) -> usize
-    ensures { Puts (check_call table.now pool.now rest.now) page.old used page.new result }
+pub fn answer(about: &About<'_>, rest: &[u8], page: &mut Page)
+    ensures { Puts (check_call about.now.table.now about.now.pool.now rest.now) page.old page.new }
 {
-    if !same(rest, b"\n") {
-        return unreadable(page, used);
+    if rest != b"\n".as_slice() {
+        return page.unreadable();
     }
-    match cases::check(table, pool) {
-        Ok(()) => put_text(b"accepted\n", page, used),
-        Err(e) => refused_line(e.refusal, e.node, page, used),
+    match cases::check(about.table, about.pool) {
+        Ok(()) => page.put_text(b"accepted\n"),
+        Err(e) => page.refused_line(e.refusal, e.node),
     }
 }

@@ -1,29 +1,22 @@
 // `read START CELL CELL ..`: the number of a case, from its cells.
-ghost use Rattle.asking.specs.Fields.{CellsCall};
-ghost use Rattle.case_calls.specs.Read.{read_call};
+ghost use Rattle.case_calls.specs.Read.{read_text};
 
 use asking::answers::number_line;
-use asking::fields::{AFTER_START, Cells, MOST_FIELDS, take_cells};
-use texts::page::PAGE_BYTES;
-use texts::said::{refused_line, unreadable};
+use asking::calls::{About, OnCells};
+use texts::page::Page;
 
-pub fn answer(
-    table: &[u64],
-    pool: &[u64],
-    rest: &[u8],
-    fields: &mut [u64; MOST_FIELDS],
-    page: &mut [u8; PAGE_BYTES],
-    used: usize,
-) -> usize
-    ensures { CellsCall (read_call table.now pool.now rest.now) rest.now fields.old
-        fields.new page.old used page.new result }
-{
-    let Cells::Asked(start, count) = take_cells(rest, fields) else {
-        return unreadable(page, used);
-    };
-    let words: &[u64] = fields;
-    match cases::read(table, pool, start, &words[AFTER_START..count]) {
-        Ok(found) => number_line(found, page, used),
-        Err(e) => refused_line(e.refusal, e.node, page, used),
+#[derive(Clone, Copy)]
+pub struct Read<'a> {
+    pub about: About<'a>,
+}
+
+impl OnCells for Read<'_> {
+    ghost text = { λ c. read_text c.about.table.now c.about.pool.now };
+
+    fn call(&self, start: usize, cells: &[u64], page: &mut Page) {
+        match cases::read(self.about.table, self.about.pool, start, cells) {
+            Ok(found) => number_line(found, page),
+            Err(e) => page.refused_line(e.refusal, e.node),
+        }
     }
 }

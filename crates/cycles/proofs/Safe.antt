@@ -1,6 +1,4 @@
 -- Marks on safe nodes, by the facts that the code has.
---   run_..      the words of a run are tested
---   one_asked, none_asked   one node is tested, if there is one
 --   pass_..     the turns of a pass
 --   now_marked  a node whose steps are safe is marked
 --   Settled     nodes that are settled, rising; settled-..   its turns
@@ -8,67 +6,40 @@
 -- Assumes nothing.
 use Rattle.grammar.specs.declared.entry.Entry.{Entry}
 use mathlib.Core.Path.{◌≡◌, sym, ◌∙◌}
-use mathlib.Core.Bool.{Bool, true, false, and-true}
+use mathlib.Core.Bool.{Bool, true, false, false≢true}
 use mathlib.Core.Logic.{⊎_elim}
-use mathlib.Core.List.{List, [], ◌∷◌}
+use mathlib.Core.List.{List}
 use Prim.Native.Nat.{ℕ, ◌+◌, ◌≤◌, ◌<◌}
 use native.Mathlib.Omega.{arith}
 use borrow.Author.Count.{below_more}
-use borrow.Author.Tests.{eqb-false, eq-eqb, ne_eqb, not-true}
-use lib.Dec.{eqb}
-use lib.ListN.{length, get_or, take, drop, set}
-use Rattle.numbers.specs.Pick.{pick}
+use lib.ListN.{get_or, set}
 use Rattle.graph.proofs.Marks.{set_only}
 use Rattle.graph.proofs.Paths.{to_no_cycle}
 use Rattle.grammar.specs.Table.{nodes}
 use Rattle.lists.specs.Lists.{every}
 use Rattle.grammar.specs.Steps.{steps_of, Step, Unguarded}
-use Rattle.grammar.specs.Plan.{size_in, Ready}
-use Rattle.lists.proofs.Runs.{Upto, run_every, run_fails, every_mem}
+use Rattle.grammar.specs.Plan.{size_in}
+use Rattle.grammar.specs.Passed.{AllPassed}
+use Rattle.grammar.proofs.PlanSizes.{ready_of}
+use Rattle.lists.proofs.Runs.{every_mem}
 use Rattle.cycles.specs.Safe.{is_marked, Safe, SafeMarks, SafePass}
 use Rattle.cycles.proofs.Table.{cycle_in}
-
--- ---- one mark
-module _ (marks : List ℕ) (k : ℕ) where
-  is_marked_lem : (get_or marks k 0 ≡ 0 → ⊥) → is_marked marks k ≡ true
-  is_marked_lem f = rw (ne_eqb (get_or marks k 0) 0 f)
-
-  no_mark : get_or marks k 0 ≡ 0 → is_marked marks k ≡ false
-  no_mark e = rw (eq-eqb (get_or marks k 0) 0 e)
-
--- ---- the words of a run
-module _ (marks p : List ℕ) (at count : ℕ) (in_p : at + count ≤ length p) where
-  pub run_safe_lem : {i : ℕ} → Upto (λ j. get_or marks (get_or p (at + j) 0) 0 ≡ 0 → ⊥) count i → count ≤ i
-      → true ≡ every (is_marked marks) (take count (drop at p))
-  run_safe_lem h l = run_every p at count in_p (is_marked marks) (λ j m. is_marked_lem marks (get_or p (at + j) 0) (h.all j (omega arith)))
-
-  pub run_not : (i : ℕ) → i < count → get_or marks (get_or p (at + i) 0) 0 ≡ 0 → false ≡ every (is_marked marks) (take count (drop at p))
-  run_not i l u = run_fails p at count in_p (is_marked marks) i l (no_mark marks (get_or p (at + i) 0) u)
-
--- ---- one node
-pub one_asked : (marks : List ℕ) (n : ℕ) {there : Bool} → there ≡ true → is_marked marks n ≡ every (is_marked marks) (pick there (n ∷ []) [])
-unfolding every
-one_asked marks n e = rw e (sym (and-true (is_marked marks n)))
-
-pub none_asked : (marks : List ℕ) (n : ℕ) {there : Bool} → there ≡ false → true ≡ every (is_marked marks) (pick there (n ∷ []) [])
-unfolding every
-none_asked marks n e = rw e
 
 -- ---- a pass
 module _ {t p : List ℕ} {plan : List Entry} where
   -- before the first pass
-  pub pass_start : {b : List ℕ} {n : ℕ} → ((k : ℕ) → get_or b k 0 ≡ 0) → SafePass t p plan b n n
-  pass_start blank = record { marked = record { safe = λ k f. absurd (f (blank k)) }; all = λ e k l. absurd (omega arith) }
+  pub pass_start : {b : List Bool} {n : ℕ} → ((k : ℕ) → get_or b k false ≡ false) → SafePass t p plan b n n
+  pass_start blank = record { marked = record { safe = λ k f. absurd (false≢true (sym (blank k) ∙ f)) }; all = λ e k l. absurd (omega arith) }
 
-  pub pass_none : {marks : List ℕ} → SafeMarks t p plan marks → SafePass t p plan marks 0 0
+  pub pass_none : {marks : List Bool} → SafeMarks t p plan marks → SafePass t p plan marks 0 0
   pass_none s = record { marked = s; all = λ e k l. absurd (omega arith) }
 
-  module _ {marks : List ℕ} {n left : ℕ} (s : SafePass t p plan marks n left) where
+  module _ {marks : List Bool} {n left : ℕ} (s : SafePass t p plan marks n left) where
     -- the node is safe, and is marked now or was before
-    more : {next : List ℕ} → SafeMarks t p plan next → Safe t p plan n → SafePass t p plan next (n + 1) left
+    more : {next : List Bool} → SafeMarks t p plan next → Safe t p plan n → SafePass t p plan next (n + 1) left
     more m here = record { marked = m; all = λ e. below_more _ n (s.all e) here }
 
-    pub pass_marked : (get_or marks n 0 ≡ 0 → ⊥) → SafePass t p plan marks (n + 1) left
+    pub pass_marked : get_or marks n false ≡ true → SafePass t p plan marks (n + 1) left
     pass_marked f = more s.marked (s.marked.safe n f)
 
     pub pass_left : SafePass t p plan marks (n + 1) (left + 1)
@@ -78,41 +49,40 @@ module _ {t p : List ℕ} {plan : List Entry} where
     pass_end {count} l u = let e : n ≡ count = omega arith in rw e at s
 
   -- a node whose steps lead to safe nodes alone is safe
-  module _ {marks : List ℕ} (n : ℕ) (s : SafeMarks t p plan marks) {b : Bool} (asked : b ≡ every (is_marked marks) (steps_of false t p (size_in plan) n))
+  module _ {marks : List Bool} (n : ℕ) (s : SafeMarks t p plan marks) {b : Bool} (asked : b ≡ every (is_marked marks) (steps_of false t p (size_in plan) n))
       (yes : b ≡ true) where
     stepped : (m : ℕ) → Step false t p (size_in plan) n m → Safe t p plan m
-    stepped m i = s.safe m (eqb-false (get_or marks m 0) 0 (not-true (eqb (get_or marks m 0) 0)
-        (every_mem (is_marked marks) m (steps_of false t p (size_in plan) n) (sym asked ∙ yes) i)))
+    stepped m i = s.safe m (every_mem (is_marked marks) m (steps_of false t p (size_in plan) n) (sym asked ∙ yes) i)
 
     here : Safe t p plan n
     here = record { never = to_no_cycle (λ m i. (stepped m i).never) }
 
-    pub now_marked : SafeMarks t p plan (set marks n 1)
+    pub now_marked : SafeMarks t p plan (set marks n true)
     now_marked = record { safe = kept }
       where
-        kept : (k : ℕ) → (get_or (set marks n 1) k 0 ≡ 0 → ⊥) → Safe t p plan k
-        kept k f = ⊎_elim (λ l. s.safe k (λ z. omega arith)) (λ e. rw e here) (set_only marks n k (omega arith))
+        kept : (k : ℕ) → get_or (set marks n true) k false ≡ true → Safe t p plan k
+        kept k f = ⊎_elim (λ l. s.safe k l) (λ e. rw e here) (set_only marks n k f)
 
-    pub pass_safe : {left : ℕ} → SafePass t p plan marks n left → SafePass t p plan (set marks n 1) (n + 1) left
+    pub pass_safe : {left : ℕ} → SafePass t p plan marks n left → SafePass t p plan (set marks n true) (n + 1) left
     pass_safe q = record { marked = now_marked; all = λ e. below_more _ n (q.all e) here }
 
-  pub all_safe_lem : {marks : List ℕ} {left : ℕ} → Ready t p plan → SafePass t p plan marks (nodes t) left → left ≤ 0 → (n : ℕ)
+  pub all_safe_lem : {marks : List Bool} {left : ℕ} → AllPassed t p plan → SafePass t p plan marks (nodes t) left → left ≤ 0 → (n : ℕ)
       → Unguarded t p (size_in plan) n → ⊥
-  all_safe_lem r s l n q = (s.all (omega arith) n (cycle_in false r.checked n q)).never n q q
+  all_safe_lem r s l n q = (s.all (omega arith) n (cycle_in false (ready_of r).checked n q)).never n q q
 
 -- ---- nodes that are settled, rising
-pub record Settled (t p : List ℕ) (plan : List Entry) (marks : List ℕ) (n : ℕ) : Type 0 where
+pub record Settled (t p : List ℕ) (plan : List Entry) (marks : List Bool) (n : ℕ) : Type 0 where
   pub le : n ≤ nodes t
   pub marked : SafeMarks t p plan marks
   pub all : (k : ℕ) → k < n → Safe t p plan k
 
 module _ {t p : List ℕ} {plan : List Entry} where
-  pub settled_none : {marks : List ℕ} → SafeMarks t p plan marks → Settled t p plan marks 0
+  pub settled_none : {marks : List Bool} → SafeMarks t p plan marks → Settled t p plan marks 0
   settled_none s = record { le = omega arith; marked = s; all = λ k l. absurd (omega arith) }
 
-  pub settled_more : {marks next : List ℕ} {n : ℕ} → Settled t p plan marks n → n < nodes t → SafeMarks t p plan next → (get_or next n 0 ≡ 0 → ⊥)
+  pub settled_more : {marks next : List Bool} {n : ℕ} → Settled t p plan marks n → n < nodes t → SafeMarks t p plan next → get_or next n false ≡ true
       → Settled t p plan next (n + 1)
   settled_more {marks} {next} {n} s l m f = record { le = omega arith; marked = m; all = below_more _ n s.all (m.safe n f) }
 
-  pub settled_all : {marks : List ℕ} {n : ℕ} → Ready t p plan → Settled t p plan marks n → nodes t ≤ n → (k : ℕ) → Unguarded t p (size_in plan) k → ⊥
-  settled_all r s l k q = (s.all k (omega (arith, cycle_in false r.checked k q))).never k q q
+  pub settled_all : {marks : List Bool} {n : ℕ} → AllPassed t p plan → Settled t p plan marks n → nodes t ≤ n → (k : ℕ) → Unguarded t p (size_in plan) k → ⊥
+  settled_all r s l k q = (s.all k (omega (arith, cycle_in false (ready_of r).checked k q))).never k q q

@@ -21,5 +21,5 @@ pub record OnCycle (guarded : Bool) (t p : List ℕ) (z : ℕ → Size) (n : ℕ
   pub cycle : Leads guarded t p z n n
 
 -- the nodes that node n names are marked too
-abbrev pub Marks : Bool → List ℕ → List ℕ → List Entry → ℕ → List ℕ → List ℕ → Type 0
+abbrev pub Marks : Bool → List ℕ → List ℕ → List Entry → ℕ → List Bool → List Bool → Type 0
 Marks guarded t p plan n old last = last ≡ marked old (steps_in guarded t p plan n)

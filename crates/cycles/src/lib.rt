@@ -5,26 +5,24 @@
 mod safety;
 mod search;
 
-ghost use Rattle.std.specs.Prelude.{◌≡◌, false, ℕ, ◌*◌, ◌<◌, get_or};
-ghost use Rattle.graph.specs.Lowest.{Lowest};
-ghost use Rattle.grammar.specs.Table.{nodes};
+ghost use Rattle.std.specs.Prelude.{◌≡◌, false, ℕ, ◌<◌};
+ghost use Rattle.grammar.specs.Table.{kind_of, nodes};
 ghost use Rattle.grammar.specs.Steps.{Unguarded, ExceptOnCycle};
-ghost use Rattle.grammar.specs.Plan.{size_in, Ready};
+ghost use Rattle.grammar.specs.Plan.{size_in};
+ghost use Rattle.cycles.specs.Finds.{Finds};
 ghost use Rattle.grammar.specs.Verdict.{cycles};
 
-use grammar::entry::Entry;
-use grammar::kind::Kind;
 use grammar::refusal::{Refusal, Refused};
+use grammar::weighed::Weighed;
 use safety::all_safe;
-use search::{NONE, lowest_asked};
+use search::lowest_asked;
 
 // Whether any node is an again.
-fn has_again(table: &[u64]) -> bool
-    ensures { result ≡ false → (n : ℕ) → n < nodes table.now → get_or table.now (3 * n) 0 ≡ 9 → ⊥ }
+fn has_again(w: &Weighed) -> bool
+    ensures { result ≡ false → (n : ℕ) → n < nodes w.now.table.now → kind_of w.now.table.now n ≡ 9 → ⊥ }
 {
-    let count = table.len() / 3;
-    for n in 0..count {
-        if table[3 * n] == Kind::Again as u64 {
+    for n in 0..w.count() {
+        if w.is_again(n) {
             return true;
         }
     }
@@ -33,45 +31,40 @@ fn has_again(table: &[u64]) -> bool
 
 // Refusal 9: the lowest node on a cycle that never steps to the second part of an or. It is searched
 // for only where the passes leave a node, since a search from each again is slow.
-fn unguarded(table: &[u64], pool: &[u64], plan: &[Entry]) -> u64
-    requires { Ready table.now pool.now plan.now }
-    ensures { Lowest (Unguarded table.now pool.now (size_in plan.now)) result }
+fn unguarded(w: &Weighed) -> Option<u64>
+    ensures { Finds (Unguarded w.now.table.now w.now.pool.now (size_in w.now.plan.now)) result }
 {
-    if all_safe(table, pool, plan) {
-        return NONE;
+    if all_safe(w) {
+        return None;
     }
-    lowest_asked(table, pool, plan, false)
+    lowest_asked(w, false)
 }
 
 // Refusal 10: the lowest except on any cycle.
-fn except_on_cycle(table: &[u64], pool: &[u64], plan: &[Entry]) -> u64
-    requires { Ready table.now pool.now plan.now }
-    ensures { Lowest (ExceptOnCycle table.now pool.now (size_in plan.now)) result }
+fn except_on_cycle(w: &Weighed) -> Option<u64>
+    ensures { Finds (ExceptOnCycle w.now.table.now w.now.pool.now (size_in w.now.plan.now)) result }
 {
-    lowest_asked(table, pool, plan, true)
+    lowest_asked(w, true)
 }
 
 // "then cycles": any 9 comes before any 10. A table with no again is not searched.
-pub fn judge(table: &[u64], pool: &[u64], plan: &[Entry]) -> Result<(), Refused>
-    requires { Ready table.now pool.now plan.now }
-    ensures { result ≡ cycles table.now pool.now (size_in plan.now) }
+pub fn judge(w: &Weighed) -> Result<(), Refused>
+    ensures { result ≡ cycles w.now.table.now w.now.pool.now (size_in w.now.plan.now) }
 {
-    if has_again(table) {
-        let u = unguarded(table, pool, plan);
-        if u < NONE {
-            return Err(Refused {
-                refusal: Refusal::Unguarded,
-                node: u,
-            });
-        }
-        let e = except_on_cycle(table, pool, plan);
-        if e < NONE {
-            return Err(Refused {
-                refusal: Refusal::ExceptOnCycle,
-                node: e,
-            });
-        }
+    if !has_again(w) {
         return Ok(());
+    }
+    if let Some(node) = unguarded(w) {
+        return Err(Refused {
+            refusal: Refusal::Unguarded,
+            node,
+        });
+    }
+    if let Some(node) = except_on_cycle(w) {
+        return Err(Refused {
+            refusal: Refusal::ExceptOnCycle,
+            node,
+        });
     }
     Ok(())
 }

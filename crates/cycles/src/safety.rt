@@ -1,76 +1,47 @@
 // Marks on nodes that come to no cycle of refusal 9.
-ghost use Rattle.std.specs.Prelude.{◌≡◌, true, false, [], ◌∷◌, ℕ, ◌+◌, ◌<◌, ◌≤◌, length, get_or, take, drop};
-ghost use Rattle.numbers.specs.Pick.{pick};
+ghost use Rattle.std.specs.Prelude.{◌≡◌, true, false, ℕ, ◌<◌};
 ghost use Rattle.grammar.specs.Table.{nodes};
 ghost use Rattle.lists.specs.Lists.{every};
 ghost use Rattle.grammar.specs.Steps.{Unguarded};
-ghost use Rattle.grammar.specs.Plan.{size_in, Ready};
+ghost use Rattle.grammar.specs.Plan.{size_in};
 ghost use Rattle.cycles.specs.Safe.{is_marked, SafeMarks, SafePass};
 ghost use Rattle.grammar.specs.Shown.{steps_in};
 
-use grammar::entry::Entry;
+use super::search::MOST_NODES;
 use grammar::kinds::steps_of;
+use grammar::weighed::Weighed;
 
 // More than a table has nodes: no path that opens each of them once is as long.
 const DEEPEST: usize = 257;
 
-// Whether a node is marked safe, if there is one to ask.
-fn one_safe(there: bool, n: usize, safe: &[u8; 256]) -> bool
-    requires { there ≡ true → n < 256 }
-    ensures { result ≡ every (is_marked safe.now) (pick there (n ∷ []) []) }
+// Whether the nodes that node n steps to are all marked safe. A step that guards a cycle is not asked: 9
+// never takes one.
+fn steps_safe(w: &Weighed, n: usize, safe: &[bool; MOST_NODES]) -> bool
+    requires { n < nodes w.now.table.now }
+    ensures { result ≡ every (is_marked safe.now) (steps_in false w.now.table.now w.now.pool.now w.now.plan.now n) }
 {
-    if there {
-        return safe[n] != 0;
-    }
-    true
-}
-
-// Whether the nodes that `count` words of the pool name, from `at` on, are all marked safe.
-fn run_safe(pool: &[u64], at: usize, count: usize, safe: &[u8; 256]) -> bool
-    requires count_in_bounds { at + count ≤ length pool.now }
-    requires by_index { (i : ℕ) → i < count → get_or pool.now (at + i) 0 < 256 }
-    ensures { result ≡ every (is_marked safe.now) (take count (drop at pool.now)) }
-{
-    for i in 0..count {
-        let s = pool[at + i] as usize;
-        if safe[s] == 0 {
+    let steps = steps_of(w, n, false);
+    for k in steps {
+        if !safe[k] {
             return false;
         }
     }
     true
 }
 
-// Whether the nodes that node n steps to are all marked safe. A step that guards a cycle is not asked: 9
-// never takes one.
-fn steps_safe(table: &[u64], pool: &[u64], plan: &[Entry], n: usize, safe: &[u8; 256]) -> bool
-    requires ready { Ready table.now pool.now plan.now }
-    requires n_bound { n < nodes table.now }
-    ensures { result ≡ every (is_marked safe.now) (steps_in false table.now pool.now plan.now n) }
-{
-    let s = steps_of(table, pool, plan, n, false);
-    if one_safe(s.first, s.a, safe) {
-        if one_safe(s.second, s.b, safe) {
-            return run_safe(pool, s.at, s.count, safe);
-        }
-    }
-    false
-}
-
 // One pass over the nodes, rising: marks those whose steps lead to safe nodes alone, and says how
 // many stay unmarked.
-fn safe_pass(table: &[u64], pool: &[u64], plan: &[Entry], safe: &mut [u8; 256]) -> usize
-    requires ready { Ready table.now pool.now plan.now }
-    requires safe_marks { SafeMarks table.now pool.now plan.now safe.old }
-    ensures { SafePass table.now pool.now plan.now safe.new (nodes table.now) result }
+fn safe_pass(w: &Weighed, safe: &mut [bool; MOST_NODES]) -> usize
+    requires { SafeMarks w.now.table.now w.now.pool.now w.now.plan.now safe.old }
+    ensures { SafePass w.now.table.now w.now.pool.now w.now.plan.now safe.new (nodes w.now.table.now) result }
 {
-    let count = table.len() / 3;
     let mut left = 0;
-    for n in 0..count {
-        if safe[n] != 0 {
+    for n in 0..w.count() {
+        if safe[n] {
             continue;
         }
-        if steps_safe(table, pool, plan, n, safe) {
-            safe[n] = 1;
+        if steps_safe(w, n, safe) {
+            safe[n] = true;
             continue;
         }
         left += 1;
@@ -80,65 +51,46 @@ fn safe_pass(table: &[u64], pool: &[u64], plan: &[Entry], safe: &mut [u8; 256]) 
 
 // Marks node n if all that it steps to can be marked, those first: each node is opened once.
 fn settle(
-    table: &[u64],
-    pool: &[u64],
-    plan: &[Entry],
+    w: &Weighed,
     n: usize,
     left: usize,
-    open: &mut [u8; 256],
-    safe: &mut [u8; 256],
+    open: &mut [bool; MOST_NODES],
+    safe: &mut [bool; MOST_NODES],
 )
-    requires ready { Ready table.now pool.now plan.now }
-    requires n_bound { n < nodes table.now }
-    requires safe_marks { SafeMarks table.now pool.now plan.now safe.old }
-    ensures { SafeMarks table.now pool.now plan.now safe.new }
+    requires n_bound { n < nodes w.now.table.now }
+    requires safe_marks { SafeMarks w.now.table.now w.now.pool.now w.now.plan.now safe.old }
+    ensures { SafeMarks w.now.table.now w.now.pool.now w.now.plan.now safe.new }
 {
     if left == 0 {
         return;
     }
-    if open[n] != 0 {
+    if open[n] {
         return;
     }
-    open[n] = 1;
-    let s = steps_of(table, pool, plan, n, false);
-    let first = s.first;
-    if first {
-        settle(table, pool, plan, s.a, left - 1, open, safe);
+    open[n] = true;
+    for k in steps_of(w, n, false) {
+        settle(w, k, left - 1, open, safe);
     }
-    let second = s.second;
-    if second {
-        settle(table, pool, plan, s.b, left - 1, open, safe);
-    }
-    let at = s.at;
-    let count = s.count;
-    let mut i: usize = 0;
-    while i < count {
-        let next = pool[at + i] as usize;
-        settle(table, pool, plan, next, left - 1, open, safe);
-        i += 1;
-    }
-    if steps_safe(table, pool, plan, n, safe) {
-        safe[n] = 1;
+    if steps_safe(w, n, safe) {
+        safe[n] = true;
     }
 }
 
 // Whether every node can be marked: each is settled, those it steps to before it, so that a table with no
 // refusal 9 is gone through once.
-fn all_settled(table: &[u64], pool: &[u64], plan: &[Entry], safe: &mut [u8; 256]) -> bool
-    requires ready { Ready table.now pool.now plan.now }
-    requires safe_marks { SafeMarks table.now pool.now plan.now safe.old }
-    ensures { result ≡ true → (n : ℕ) → Unguarded table.now pool.now (size_in plan.now) n → ⊥ }
+fn all_settled(w: &Weighed, safe: &mut [bool; MOST_NODES]) -> bool
+    requires { SafeMarks w.now.table.now w.now.pool.now w.now.plan.now safe.old }
+    ensures { result ≡ true → (n : ℕ) → Unguarded w.now.table.now w.now.pool.now (size_in w.now.plan.now) n → ⊥ }
 {
-    let count = table.len() / 3;
     // What is marked already needs no opening.
     let mut open = *safe;
-    for n in 0..count {
+    for n in 0..w.count() {
         // Most are marked by now, on the way down from a node before: no call for those.
-        if safe[n] != 0 {
+        if safe[n] {
             continue;
         }
-        settle(table, pool, plan, n, DEEPEST, &mut open, safe);
-        if safe[n] == 0 {
+        settle(w, n, DEEPEST, &mut open, safe);
+        if !safe[n] {
             return false;
         }
     }
@@ -147,16 +99,15 @@ fn all_settled(table: &[u64], pool: &[u64], plan: &[Entry], safe: &mut [u8; 256]
 
 // Whether marks show that no node is on "a cycle that never steps to the second part of an or". Passes
 // over the nodes go on while each leaves at most half of those before it; then what is left is settled.
-pub fn all_safe(table: &[u64], pool: &[u64], plan: &[Entry]) -> bool
-    requires { Ready table.now pool.now plan.now }
-    ensures { result ≡ true → (n : ℕ) → Unguarded table.now pool.now (size_in plan.now) n → ⊥ }
+pub fn all_safe(w: &Weighed) -> bool
+    ensures { result ≡ true → (n : ℕ) → Unguarded w.now.table.now w.now.pool.now (size_in w.now.plan.now) n → ⊥ }
 {
-    let mut safe = [0u8; 256];
-    let mut left = table.len() / 3;
+    let mut safe = [false; MOST_NODES];
+    let mut left = w.count();
     while 0 < left {
-        let still = safe_pass(table, pool, plan, &mut safe);
+        let still = safe_pass(w, &mut safe);
         if left / 2 < still {
-            return all_settled(table, pool, plan, &mut safe);
+            return all_settled(w, &mut safe);
         }
         left = still;
     }

@@ -1,59 +1,75 @@
--- The steps of a node, by its kind word.
---   steps_by        the nodes that a node names are those of its kind's rule; unknown_steps none, of no kind
---   dep_first, dep_count, dep_run   what the code of dep has of its first part and of its seconds
---   names_as        steps that are the same
+-- The steps of a node, by its kind.
+--   steps_by        the nodes that a node names are those of its kind's rule
+--   word_as, steps_as   the same by its entry in the plan
+--   skips_as        whether it is an except
+--   dep_first, dep_run   what the code of dep has of its first part and of its seconds; dep_steps the nodes that it names
 -- Assumes nothing.
-use Rattle.grammar.specs.declared.entry.Entry.{Entry}
-use mathlib.Core.Path.{◌≡◌, sym, subst, ap}
+use mathlib.Core.Path.{◌≡◌, sym, subst, ap, ◌∙◌}
 use mathlib.Core.Bool.{Bool}
-use mathlib.Core.List.{List, [], ◌∷◌}
+use mathlib.Core.List.{List, ◌∷◌}
 use Prim.Native.Nat.{ℕ, ◌+◌, ◌≤◌, ◌<◌}
 use native.Mathlib.Omega.{arith}
-use lib.ListN.{length}
+use lib.ListN.{length, get_or}
 use borrow.Author.Tests.{ltb-true}
 use Rattle.numbers.specs.Size.{Size}
+use Rattle.grammar.specs.declared.entry.Entry.{Entry}
+use Rattle.grammar.specs.declared.kind.Kind.{Kind}
+use Rattle.grammar.specs.declared.kind.Kind.TheVariants.{Dep}
 use Rattle.grammar.specs.Table.{kind_of, a_of, b_of, nodes}
-use Rattle.grammar.specs.Checks.{count, seconds}
+use Rattle.grammar.specs.Checks.{count}
 use Rattle.grammar.specs.Law.{Holds}
-use Rattle.grammar.specs.Kind.{Kind, before}
+use Rattle.grammar.specs.Kind.{before}
 use Rattle.grammar.specs.kinds.Dep.{dep_rule}
-use Rattle.grammar.specs.kinds.{kinds, kind_in}
+use Rattle.grammar.specs.kinds.{kind_in}
+use Rattle.grammar.specs.KindWords.{word_of_kind}
 use Rattle.grammar.specs.Nodes.{node_at, rule_at}
 use Rattle.grammar.specs.Steps.{steps_of}
-use Rattle.grammar.specs.Plan.{size_in, Ready}
+use Rattle.grammar.specs.Plan.{blank, size_in, a_word, b_word}
+use Rattle.grammar.specs.Passed.{AllPassed}
 use Rattle.grammar.specs.Seconds.{firsts}
-use Rattle.grammar.specs.Named.{Names}
-use Rattle.grammar.specs.declared.named.Named.{Named}
-use Rattle.grammar.proofs.Known.{past_unknown}
+use Rattle.grammar.specs.Shown.{seconds_in}
+use Rattle.grammar.proofs.PlanSizes.{ready_of}
 use Rattle.grammar.proofs.Stepping.{few_word}
 use Rattle.grammar.proofs.laws.Dep.{Shown, shows}
-
-pub names_as : {p xs ys : List ℕ} {r : Named} → xs ≡ ys → Names p xs r → Names p ys r
-names_as {p} {xs} {ys} {r} e h = subst (λ (zs : List ℕ). Names p zs r) e h
 
 module _ (guarded : Bool) (t p : List ℕ) (z : ℕ → Size) (n : ℕ) where
   pub steps_by : {k : ℕ} → kind_of t n ≡ k → ((kind_in k).rule (a_of t n) (b_of t n) p (before z n)).steps guarded ≡ steps_of guarded t p z n
   unfolding rule_at
   steps_by e = sym (ap (λ (k : ℕ). ((kind_in k).rule (a_of t n) (b_of t n) p (before z n)).steps guarded) e)
 
-  pub unknown_steps : length kinds ≤ kind_of t n → [] ≡ steps_of guarded t p z n
+-- by the entry of a node that has passed
+module _ {t p : List ℕ} {plan : List Entry} (h : AllPassed t p plan) {n : ℕ} (l : n < nodes t) {k : Kind} (e : (get_or plan n blank).kind ≡ k) where
+  pub word_as : kind_of t n ≡ word_of_kind k
+  word_as = sym (h.words n l).0 ∙ ap word_of_kind e
+
+  pub steps_as : (guarded : Bool)
+      → ((kind_in (word_of_kind k)).rule (a_word plan n) (b_word plan n) p (before (size_in plan) n)).steps guarded ≡ steps_of guarded t p (size_in plan) n
+  steps_as guarded = let w = h.words n l in rw (w.1, w.2) (steps_by guarded t p (size_in plan) n word_as)
+
+  pub skips_as : ((kind_in (word_of_kind k)).rule (a_word plan n) (b_word plan n) p (before (size_in plan) n)).skips ≡ (rule_at t p (size_in plan) n).skips
   unfolding rule_at
-  unknown_steps l = sym (ap (λ (k : Kind). (k.rule (a_of t n) (b_of t n) p (before z n)).steps guarded) (past_unknown (kind_of t n) l))
+  skips_as =
+      let w = h.words n l in
+      rw (w.1, w.2) (sym (ap (λ (x : ℕ). ((kind_in x).rule (a_of t n) (b_of t n) p (before (size_in plan) n)).skips) word_as))
 
 -- ---- a dep
-module _ {t p : List ℕ} {plan : List Entry} (r : Ready t p plan) {n : ℕ} (h : n < nodes t) (e : kind_of t n ≡ 6) where
+module _ {t p : List ℕ} {plan : List Entry} (h : AllPassed t p plan) {n : ℕ} (l : n < nodes t) (e : (get_or plan n blank).kind ≡ Dep) where
   shown : Shown (node_at t p n) (size_in plan)
-  shown = shows _ (size_in plan) (subst (λ (k : ℕ). Holds ((kind_in k).checks (node_at t p n) (before (size_in plan) n))) e (r.checked.holds n h))
+  shown =
+      let r = (ready_of h).checked in
+      shows _ (size_in plan) (subst (λ (k : ℕ). Holds ((kind_in k).checks (node_at t p n) (before (size_in plan) n))) (word_as h l e) (r.holds n l))
 
-  pub dep_first : a_of t n < length plan
-  dep_first = omega (arith, ltb-true (a_of t n) n shown.low, h, r.long)
+  few_firsts : count (size_in plan (a_of t n)) ≡ firsts plan (a_of t n)
+  few_firsts = few_word (firsts plan (a_of t n)) shown.small
 
-  pub dep_count : count (size_in plan (a_of t n)) ≡ firsts plan (a_of t n)
-  dep_count = few_word (firsts plan (a_of t n)) shown.small
+  pub dep_first : a_word plan n < length plan
+  dep_first = let w = h.words n l in rw w.1 (omega (arith, ltb-true (a_of t n) n shown.low, l, h.long))
 
-  pub dep_run : b_of t n + firsts plan (a_of t n) ≤ length p
-  dep_run = rw dep_count at shown.inside
+  pub dep_run : b_word plan n + firsts plan (a_word plan n) ≤ length p
+  dep_run = let w = h.words n l in rw (w.1, w.2) (rw few_firsts at shown.inside)
 
-  pub dep_steps : (guarded : Bool) → a_of t n ∷ seconds p (b_of t n) (size_in plan (a_of t n)) ≡ steps_of guarded t p (size_in plan) n
+  pub dep_steps : (guarded : Bool) → a_word plan n ∷ seconds_in plan p (a_word plan n) (b_word plan n) ≡ steps_of guarded t p (size_in plan) n
   unfolding dep_rule
-  dep_steps guarded = rw shown.low at (steps_by guarded t p (size_in plan) n e)
+  dep_steps guarded =
+      let w = h.words n l in
+      rw (w.1, w.2) (rw (shown.low, few_firsts) at (steps_by guarded t p (size_in plan) n (word_as h l e)))

@@ -4,22 +4,18 @@
 --   steps_in       the nodes that a node names, by the sizes of a plan
 --   seconds_in     the nodes that a dep's words in the pool name, by the plan's count of firsts; seconds_sized their sizes
 --   ShowsDep      of a dep of any size
---   NamesDep      the nodes that a dep names
 -- Assumes nothing.
 use Rattle.grammar.specs.declared.entry.Entry.{Entry}
-use Rattle.std.specs.Prelude.{◌≡◌, Bool, List, [], ◌∷◌, ℕ, ◌+◌, ◌≤◌, length, take, drop}
+use Rattle.std.specs.Prelude.{◌≡◌, Bool, List, [], ◌∷◌, ℕ, take, drop}
 use Rattle.numbers.specs.Size.{Size}
 use Rattle.numbers.specs.Dep.{Seconds}
-use Rattle.grammar.specs.Checks.{count, seconds}
 use Rattle.grammar.specs.Rule.{Item, own, part}
 use Rattle.grammar.specs.Steps.{steps_of}
 use Rattle.grammar.specs.Plan.{size_in}
 use Rattle.grammar.specs.Seconds.{firsts}
-use Rattle.grammar.specs.Named.{Names}
 use Rattle.grammar.specs.kinds.Dep.{seconds_of, dep_rule}
 use Rattle.grammar.specs.declared.kinds.Two.{Two}
 use Rattle.grammar.specs.declared.kinds.Tagged.{Tagged}
-use Rattle.grammar.specs.declared.named.Named.{Named}
 
 abbrev pub ShowsTwo : List Item → Two → Type 0
 ShowsTwo items r = items ≡ part r.first r.x 0 ∷ part r.second r.y 0 ∷ []
@@ -38,8 +34,3 @@ seconds_sized plan p a b = seconds_of (size_in plan) (seconds_in plan p a b)
 
 abbrev pub ShowsDep : List Entry → List ℕ → ℕ → ℕ → ℕ → Two → Type 0
 ShowsDep plan p a b n r = (s : Size) → ShowsTwo ((dep_rule s (seconds_sized plan p a b) a (seconds_in plan p a b)).items n) r
-
--- whatever pool it is that has the words
-abbrev pub NamesDep : List Entry → ℕ → ℕ → Named → Type 0
-NamesDep plan a b r =
-    (p : List ℕ) → b + firsts plan a ≤ length p → count (size_in plan a) ≡ firsts plan a → Names p (a ∷ seconds p b (size_in plan a)) r

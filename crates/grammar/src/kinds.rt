@@ -5,15 +5,16 @@ ghost use Rattle.numbers.specs.Size.{Size, size_of, code_of};
 ghost use Rattle.grammar.specs.Table.{nodes};
 ghost use Rattle.grammar.specs.kinds.{used_words, kind_in};
 ghost use Rattle.grammar.specs.KindWords.{word_of_kind};
-ghost use Rattle.grammar.specs.Nodes.{node_with};
+ghost use Rattle.grammar.specs.Nodes.{node_with, rule_at};
 ghost use Rattle.grammar.specs.Steps.{steps_of};
-ghost use Rattle.grammar.specs.Plan.{size_in, weighed, weighed_of, Ready};
-ghost use Rattle.grammar.specs.Named.{Names};
+ghost use Rattle.grammar.specs.Plan.{size_in, weighed, weighed_of};
+ghost use Rattle.grammar.specs.Named.{named};
 
 use super::entry::Entry;
 use super::kind::Kind;
 use super::named::{Named, none, one, two};
 use super::refusal::Refusal;
+use super::weighed::Weighed;
 use numbers::size::ENDLESS;
 
 pub mod again;
@@ -120,32 +121,33 @@ pub fn row(
 }
 
 // The nodes that node n names; where not `guarded`, without those to which a step guards a cycle.
-pub fn steps_of(table: &[u64], pool: &[u64], plan: &[Entry], n: usize, guarded: bool) -> Named
-    requires ready { Ready table.now pool.now plan.now }
-    requires n_bound { n < nodes table.now }
-    ensures { Names pool.now (steps_of guarded table.now pool.now (size_in plan.now) n) result }
+#[tactic(auto, using(crate::proofs::KindSteps::steps_as), unfolding(crate::proofs::laws::rules))]
+pub fn steps_of<'a>(w: &Weighed<'a>, n: usize, guarded: bool) -> Named<'a>
+    requires { n < nodes w.now.table.now }
+    ensures { named result ≡ steps_of guarded w.now.table.now w.now.pool.now (size_in w.now.plan.now) n }
 {
-    let a = table[3 * n + 1] as usize;
-    let b = table[3 * n + 2] as usize;
-    match Kind::try_from(table[3 * n]) {
-        Ok(Kind::Below) => none(),
-        Ok(Kind::Nats) => none(),
-        Ok(Kind::Pool) => none(),
-        Ok(Kind::Shift) => one(a),
-        Ok(Kind::Or) => or::steps(a, b, guarded),
-        Ok(Kind::Cons) => two(a, b),
-        Ok(Kind::Dep) => dep::steps(plan, a, b),
-        Ok(Kind::Except) => one(a),
-        Ok(Kind::Fix) => one(a),
-        Ok(Kind::Again) => one(a),
-        Err(_) => none(),
+    let entry = w.plan[n];
+    let a = entry.a;
+    let b = entry.b as usize;
+    match entry.kind {
+        Kind::Below => none(),
+        Kind::Nats => none(),
+        Kind::Pool => none(),
+        Kind::Shift => one(a),
+        Kind::Or => or::steps(a, b, guarded),
+        Kind::Cons => two(a, b),
+        Kind::Dep => dep::steps(w.pool, w.plan, a, b),
+        Kind::Except => one(a),
+        Kind::Fix => one(a),
+        Kind::Again => one(a),
     }
 }
 
-// Whether a kind is an except: refusal 10 asks those alone.
+// Whether node n is an except: refusal 10 asks those alone.
 #[tactic(auto, unfolding(crate::proofs::laws::rules))]
-pub fn skips(kind: Kind) -> bool
-    ensures { (a b : ℕ) (p : List ℕ) (z : ℕ → Size) → result ≡ ((kind_in (word_of_kind kind)).rule a b p z).skips }
+pub fn skips(w: &Weighed, n: usize) -> bool
+    requires { n < nodes w.now.table.now }
+    ensures { result ≡ (rule_at w.now.table.now w.now.pool.now (size_in w.now.plan.now) n).skips }
 {
-    matches!(kind, Kind::Except)
+    matches!(w.plan[n].kind, Kind::Except)
 }

@@ -8,3 +8,4 @@ pub mod kinds;
 pub mod named;
 pub mod pool_words;
 pub mod refusal;
+pub mod weighed;

@@ -1,54 +1,62 @@
-// The nodes that a node names, by value: marking and asking go over that, and know no kind.
-ghost use Rattle.std.specs.Prelude.{List, [], ◌∷◌, ℕ};
-ghost use Rattle.grammar.specs.Named.{Names};
+// The nodes that a node names, handed out one after the other: marking and asking go over them, and know no kind.
+ghost use Rattle.std.specs.Prelude.{◌≡◌, [], ◌∷◌};
+ghost use Rattle.std.specs.Iterator.{YieldsFirst, item_count};
+ghost use Rattle.grammar.specs.Named.{named};
 
-// Node a where there is a first, node b where there is a second, and the nodes that `count` words of the
-// pool name, from `at` on.
-#[derive(Drop)]
-pub struct Named {
-    pub first: bool,
-    pub second: bool,
-    pub a: usize,
-    pub b: usize,
-    pub at: usize,
-    pub count: usize,
+// A first node and a second, where there are, and the words of the pool that name the others.
+#[derive(Clone, Copy, Debug, PartialEq, Eq)]
+pub struct Named<'a> {
+    pub first: Option<usize>,
+    pub second: Option<usize>,
+    pub rest: &'a [u64],
 }
 
-pub fn none() -> Named
-    ensures { (p : List ℕ) → Names p [] result }
-{
-    Named {
-        first: false,
-        second: false,
-        a: 0,
-        b: 0,
-        at: 0,
-        count: 0,
+impl<'a> Iterator for Named<'a> {
+    type Item = usize;
+
+    ghost next_gives = { YieldsFirst named };
+
+    ghost remaining = { item_count named };
+
+    fn next(&mut self) -> Option<usize> {
+        if let Some(a) = self.first.take() {
+            return Some(a);
+        }
+        if let Some(b) = self.second.take() {
+            return Some(b);
+        }
+        let (word, rest) = self.rest.split_first()?;
+        self.rest = rest;
+        Some(*word as usize)
     }
 }
 
-pub fn one(a: usize) -> Named
-    ensures { (p : List ℕ) → Names p (a ∷ []) result }
+pub fn none<'a>() -> Named<'a>
+    ensures { named result ≡ [] }
 {
     Named {
-        first: true,
-        second: false,
-        a,
-        b: 0,
-        at: 0,
-        count: 0,
+        first: None,
+        second: None,
+        rest: &[],
     }
 }
 
-pub fn two(a: usize, b: usize) -> Named
-    ensures { (p : List ℕ) → Names p (a ∷ b ∷ []) result }
+pub fn one<'a>(a: usize) -> Named<'a>
+    ensures { named result ≡ a ∷ [] }
 {
     Named {
-        first: true,
-        second: true,
-        a,
-        b,
-        at: 0,
-        count: 0,
+        first: Some(a),
+        second: None,
+        rest: &[],
+    }
+}
+
+pub fn two<'a>(a: usize, b: usize) -> Named<'a>
+    ensures { named result ≡ a ∷ b ∷ [] }
+{
+    Named {
+        first: Some(a),
+        second: Some(b),
+        rest: &[],
     }
 }

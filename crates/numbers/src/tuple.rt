@@ -10,8 +10,8 @@ use super::power::{most, root};
 
 pub const MOST_PARTS: usize = 8;
 
-// How many lists of part numbers up to r there are: of all, as they may follow once r has been met, and of those that
-// have it, as they may follow before.
+// How many lists of part numbers up to r there are: once r has been met all that may follow, and before it those that
+// have it.
 #[derive(Clone, Copy, Debug, PartialEq, Eq)]
 struct Ways {
     met: u64,

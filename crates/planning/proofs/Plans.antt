@@ -2,23 +2,23 @@
 --   plan_none, plan_more   an empty plan; a plan with one node more
 --   plan_sizes             the sizes that the plan's words stand for
 -- Assumes nothing.
-use mathlib.Core.Path.{◌≡◌, refl, sym, ap, ◌∙◌, fun_ext}
+use mathlib.Core.Path.{◌≡◌, refl, sym, ap, ◌∙◌}
 use mathlib.Core.Logic.{⊎_elim}
 use mathlib.Core.List.{List, [], ◌∷◌, ◌++◌}
-use Prim.Native.Nat.{ℕ, zero, suc, ◌+◌, ◌^◌, ◌≤◌, ◌<◌}
+use Prim.Native.Nat.{ℕ, zero, suc, ◌+◌, ◌≤◌, ◌<◌}
 use native.Mathlib.Nat.{not-suc-le-zero}
 use native.Mathlib.Omega.{arith}
-use lib.ListN.{length, get_or, set, replicate, length-set, length-append, get_or-eq_default}
+use lib.ListN.{length, get_or, set, replicate, length-set, length-append}
 use lib.Seq.{get_or-set_same, get_or-set_other}
-use Rattle.numbers.specs.Size.{Size, finite, endless, code_of, size_of}
-use Rattle.numbers.proofs.size.SizeWords.{sized_finite, sized_endless}
-use Rattle.lists.proofs.Order.{same?, le_or_lt}
+use Rattle.numbers.specs.Size.{Size, code_of}
+use Rattle.lists.proofs.Order.{same?}
 use Rattle.grammar.specs.Table.{nodes}
 use Rattle.grammar.specs.Sizes.{size_at}
 use Rattle.grammar.specs.Law.{Fit}
 use Rattle.grammar.specs.Plan.{blank, size_word, size_in, Enters, Planned}
 use Rattle.grammar.specs.KindWords.{word_of_kind}
 use Rattle.grammar.specs.declared.entry.Entry.{Entry}
+use Rattle.grammar.proofs.PlanSizes.{sizes_as}
 use Rattle.grammar.proofs.Sizes.{at_end, at_other}
 
 nothing : (m k : ℕ) → get_or (replicate m blank) k blank ≡ blank
@@ -74,16 +74,5 @@ module _ {t : List ℕ} {zs : List Size} {n : ℕ} {plan : List Entry} (h : Plan
     fit = fits_at;
   }
 
--- ---- what the words stand for
-word_size : (s : Size) → Fit s → size_of (code_of s) ≡ s
-word_size (finite s) h = sized_finite s (omega arith)
-word_size endless h = sized_endless (2 ^ 63) (omega arith)
-
 pub plan_sizes : {t : List ℕ} {zs : List Size} {n : ℕ} {plan : List Entry} → Planned t zs n plan → size_in plan ≡ size_at zs
-plan_sizes {zs} {n} {plan} h = fun_ext (λ k.
-    ap size_of (h.size k)
-    ∙ ⊎_elim (λ past. none k (get_or-eq_default zs (finite 0) (omega (arith, h.many)))) (λ l. word_size (size_at zs k) (h.fit k l)) (le_or_lt n k))
-  where
-    -- a node that is not there yet has the word 0
-    none : (k : ℕ) → size_at zs k ≡ finite 0 → size_of (code_of (size_at zs k)) ≡ size_at zs k
-    none k e = rw e (sized_finite 0 (omega arith))
+plan_sizes {t} {zs} {n} {plan} h = sizes_as zs plan h.size (λ k l. h.fit k (omega (arith, h.many)))

@@ -2,9 +2,7 @@
 #![tactic(auto)]
 
 use printing::INPUT_ROOM;
-
-// Standard input's number, as the system has it.
-const STDIN_FILENO: i32 = 0;
+use texts::streams::STDIN_FILENO;
 
 fn main() {
     let mut room = [0u8; INPUT_ROOM];

@@ -2,12 +2,8 @@
 // bytes. What an input prints is followed by a line `--`.
 #![tactic(auto)]
 
-use texts::numeral::{Numeral, number_at};
-
-// The streams' numbers, as the system has them.
-const STDIN_FILENO: i32 = 0;
-
-const STDOUT_FILENO: i32 = 1;
+use texts::numeral::number_at;
+use texts::streams::{STDIN_FILENO, STDOUT_FILENO};
 
 const INPUT_ROOM: usize = 1048576;
 
@@ -26,16 +22,16 @@ fn print_input(room: &mut [u8; INPUT_ROOM]) {
 fn print_each(text: &[u8]) {
     let mut at = 0;
     while at < text.len() {
-        let Numeral::Of(count, end) = number_at(text, at) else {
+        let Some(count) = number_at(text, at) else {
             io::write_all(STDOUT_FILENO, b"no count\n");
             return;
         };
-        if text.len() <= end {
+        if text.len() <= count.end {
             io::write_all(STDOUT_FILENO, b"no count\n");
             return;
         }
-        let start = end + 1;
-        let size = count as usize;
+        let start = count.end + 1;
+        let size = count.value as usize;
         if text.len() - start < size {
             io::write_all(STDOUT_FILENO, b"cut off\n");
             return;

@@ -7,11 +7,9 @@
 --   input_of        what a text asks for
 --   readable       whether there are such numbers
 -- Assumes nothing.
-use Rattle.std.specs.Prelude.{Bool, true, false, cond, List, [], ◌∷◌, ℕ, zero, suc, leb, length}
-use Rattle.std.proofs.Math.Option.{Option, none, some, map}
+use Rattle.std.specs.Prelude.{Bool, true, false, cond, List, [], ◌∷◌, ℕ, zero, suc, leb, length, Option, Some, None, option_map}
 use Rattle.texts.specs.Line.{Reading, numbers, unreadable, line_at, within}
 use Rattle.printing.specs.declared.input.One.{One}
-use Rattle.printing.specs.declared.input.One.TheVariants.{Number, Not}
 
 pub data Input : Type 0 where
   asks : (table pool : List ℕ) (start : ℕ) (ns : List ℕ) → Input
@@ -40,35 +38,35 @@ table_line text = cond (leb (length text) most_bytes) (not_empty (within table_w
 unfoldable pub pool_line : List ℕ → ℕ → Reading
 pool_line text at = within pool_words (line_at text at)
 
-abbrev pub alone : Reading → One
-alone (numbers [] next) = Not
-alone (numbers (n ∷ []) next) = Number n next
-alone (numbers (n ∷ m ∷ ns) next) = Not
-alone unreadable = Not
+abbrev pub alone : Reading → Option One
+alone (numbers [] next) = None
+alone (numbers (n ∷ []) next) = Some (record { number = n; next = next })
+alone (numbers (n ∷ m ∷ ns) next) = None
+alone unreadable = None
 
-unfoldable pub one_at : List ℕ → ℕ → One
+unfoldable pub one_at : List ℕ → ℕ → Option One
 one_at text at = alone (line_at text at)
 
-abbrev pub further : One → (ℕ → Option (List ℕ)) → Option (List ℕ)
-further (Number n next) rest = map (n ∷◌) (rest next)
-further Not rest = none
+abbrev pub further : Option One → (ℕ → Option (List ℕ)) → Option (List ℕ)
+further (Some one) rest = option_map (one.number ∷◌) (rest one.next)
+further None rest = None
 
 -- with less than f lines; a text has no more lines than bytes
 unfoldable pub numbers_by : ℕ → List ℕ → ℕ → Option (List ℕ)
-numbers_by zero text at = none
-numbers_by (suc f) text at = cond (leb (length text) at) (some []) (further (one_at text at) (numbers_by f text))
+numbers_by zero text at = None
+numbers_by (suc f) text at = cond (leb (length text) at) (Some []) (further (one_at text at) (numbers_by f text))
 
 unfoldable pub numbers_from : List ℕ → ℕ → Option (List ℕ)
 numbers_from text at = numbers_by (suc (length text)) text at
 
 -- ---- the whole text: each line stands behind the one before
 abbrev pub with_numbers : List ℕ → List ℕ → ℕ → Option (List ℕ) → Input
-with_numbers t p i (some ns) = asks t p i ns
-with_numbers t p i none = unclear
+with_numbers t p i (Some ns) = asks t p i ns
+with_numbers t p i None = unclear
 
-abbrev pub with_start : List ℕ → List ℕ → List ℕ → One → Input
-with_start text t p (Number i at) = with_numbers t p i (numbers_from text at)
-with_start text t p Not = unclear
+abbrev pub with_start : List ℕ → List ℕ → List ℕ → Option One → Input
+with_start text t p (Some one) = with_numbers t p one.number (numbers_from text one.next)
+with_start text t p None = unclear
 
 abbrev pub with_pool : List ℕ → List ℕ → Reading → Input
 with_pool text t (numbers p at) = with_start text t p (one_at text at)
@@ -83,5 +81,5 @@ input_of text = with_table text (table_line text)
 
 -- ---- whether each line from a place on is a number
 abbrev pub readable : Option (List ℕ) → Bool
-readable (some ns) = true
-readable none = false
+readable (Some ns) = true
+readable None = false

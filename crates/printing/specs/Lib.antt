@@ -1,4 +1,5 @@
 -- What the printing program reads and prints.
 pub mod Texts
 pub mod Input
+pub mod Shape
 pub mod Printed

@@ -4,12 +4,12 @@
 --   Answers    the lines of the numbers from a place on are put on a page
 --   Judges     the same of an input whose table and start node are not judged yet
 -- Assumes nothing.
-use Rattle.std.specs.Prelude.{◌≡◌, List, [], ◌∷◌, ◌++◌, ℕ, Ok, Err}
-use Rattle.std.proofs.Math.Option.{some}
+use Rattle.std.specs.Prelude.{◌≡◌, List, [], ◌∷◌, ◌++◌, ℕ, Some, Ok, Err}
 use Rattle.grammar.specs.Sizes.{rules_of}
 use Rattle.checked.specs.Opening.{judged, opening}
 use Rattle.checked.specs.Fits.{case_cells}
 use Rattle.cases.specs.Write.{Written, writes}
+use Rattle.texts.specs.declared.page.Page.{Page}
 use Rattle.texts.specs.Page.{Puts}
 use Rattle.texts.specs.Said.{unreadable_text, refused_line}
 use Rattle.printing.specs.Texts.{case_text, case_refused_text}
@@ -39,8 +39,8 @@ unfoldable pub printed : List ℕ → List ℕ
 printed text = told (input_of text)
 
 -- ---- what is put on a page, where the lines from a place on are numbers
-pub record Answers (text : List ℕ) (at : ℕ) (t p : List ℕ) (i : ℕ) (old last : List ℕ) (r : ℕ) : Type 0 where
-  pub lines : (ns : List ℕ) → numbers_from text at ≡ some ns → Puts (cases_of t p i ns) old 0 last r
+pub record Answers (text : List ℕ) (at : ℕ) (t p : List ℕ) (i : ℕ) (old last : Page) : Type 0 where
+  pub lines : (ns : List ℕ) → numbers_from text at ≡ Some ns → Puts (cases_of t p i ns) old last
 
-pub record Judges (text : List ℕ) (at : ℕ) (t p : List ℕ) (i : ℕ) (old last : List ℕ) (r : ℕ) : Type 0 where
-  pub print : (ns : List ℕ) → numbers_from text at ≡ some ns → Puts (judged (λ e. refused_line e.refusal e.node) (opening t p i) (cases_of t p i ns)) old 0 last r
+pub record Judges (text : List ℕ) (at : ℕ) (t p : List ℕ) (i : ℕ) (old last : Page) : Type 0 where
+  pub print : (ns : List ℕ) → numbers_from text at ≡ Some ns → Puts (judged (λ e. refused_line e.refusal e.node) (opening t p i) (cases_of t p i ns)) old last

@@ -2,7 +2,7 @@
 ghost use Rattle.std.specs.Prelude.{◌≡◌};
 ghost use Rattle.printing.specs.Input.{one_at, numbers_from, readable};
 
-use texts::line::{Line, numbers_at};
+use texts::line::numbers_at;
 
 // "at most 65,536 bytes"; "Table and pool lines hold at most 768 and 4,096 numbers"
 const MOST_BYTES: usize = 65536;
@@ -15,26 +15,25 @@ pub const TABLE_WORDS: usize = 768;
 pub const POOL_WORDS: usize = 4096;
 
 // The number that is alone on a line, and the place after the line.
-#[derive(Drop)]
-pub enum One {
-    Number(u64, usize),
-    Not,
+#[derive(Clone, Copy, Debug, PartialEq, Eq)]
+pub struct One {
+    pub number: u64,
+    pub next: usize,
 }
 
 // "one number a line"
-pub fn one_at(text: &[u8], at: usize) -> One
+pub fn one_at(text: &[u8], at: usize) -> Option<One>
     ensures { result ≡ one_at text.now at }
 {
-    let mut word = [0u64; 1];
-    match numbers_at(text, at, &mut word) {
-        Line::Numbers(count, next) => {
-            if count == 0 {
-                return One::Not;
-            }
-            One::Number(word[0], next)
-        }
-        Line::Unreadable => One::Not,
+    let mut word = [0];
+    let line = numbers_at(text, at, &mut word)?;
+    if line.count == 0 {
+        return None;
     }
+    Some(One {
+        number: word[0],
+        next: line.next,
+    })
 }
 
 // Whether each line from a place on is a number, and the last one ends the text.
@@ -43,10 +42,10 @@ pub fn one_each(text: &[u8], from: usize) -> bool
 {
     let mut at = from;
     while at < text.len() {
-        match one_at(text, at) {
-            One::Number(_, next) => at = next,
-            One::Not => return false,
-        }
+        let Some(one) = one_at(text, at) else {
+            return false;
+        };
+        at = one.next;
     }
     true
 }

@@ -3,170 +3,120 @@ ghost use Rattle.std.specs.Prelude.{◌≡◌};
 ghost use Rattle.texts.specs.Page.{Puts, Waits};
 ghost use Rattle.printing.specs.Texts.{case_text, case_refused_text};
 ghost use Rattle.checked.specs.Opening.{opening};
-ghost use Rattle.printing.specs.Input.{pool_line, one_at, with_start, with_pool};
-ghost use Rattle.printing.specs.Printed.{case_line, told, printed, Judges, Answers};
+ghost use Rattle.printing.specs.Printed.{case_line, printed, Judges, Answers};
 
-use super::input::{INPUT_ROOM, One, POOL_WORDS, TABLE_WORDS, one_at, one_each};
+use super::input::{POOL_WORDS, TABLE_WORDS, one_at};
+use super::shape::Shape;
 use checked::opened::begin;
 use checked::prepared::PLAN;
 use grammar::refusal::{Refusal, Refused, number_of};
-use texts::line::{Line, numbers_at};
-use texts::page::{PAGE_BYTES, flush, put_line, put_number, put_text};
-use texts::said::{refused_line, unreadable};
+use texts::page::Page;
 
 // "The program has room for 4,096 cells, so a longer case is refused 14."
 const ROOM: usize = 4096;
+
+// The grammar that an input asks about: its table and pool, and the start node.
+#[derive(Clone, Copy)]
+struct Asked<'a> {
+    table: &'a [u64],
+    pool: &'a [u64],
+    start: usize,
+}
 
 // Prints all that an input asks for, on standard output. It answers how many bytes wait then: none.
 pub fn print_all(text: &[u8]) -> usize
     ensures { result ≡ 0 }
 {
-    let mut page = [0u8; PAGE_BYTES];
-    let used = answer(text, &mut page);
-    finish(text, &page, used)
+    let mut page = Page::new();
+    answer(text, &mut page);
+    finish(text, &mut page);
+    page.used
 }
 
 // Writes out what waits. What is written is in no contract, so the caller has to show that it is the end of
 // what the text prints.
-fn finish(text: &[u8], page: &[u8; PAGE_BYTES], used: usize) -> usize
-    requires { Waits (printed text.now) page.now used }
-    ensures { result ≡ 0 }
+fn finish(text: &[u8], page: &mut Page)
+    requires { Waits (printed text.now) page.old }
+    ensures { page.new.used ≡ 0 }
 {
-    flush(page, used)
+    page.flush();
 }
 
-// "table words, pool words (this line alone may be empty), start node, then one number a line"; "Anything
-// else prints only `unreadable`". All of it is read before anything is answered, on a page where nothing waits.
-pub fn answer(text: &[u8], page: &mut [u8; PAGE_BYTES]) -> usize
-    ensures { Puts (printed text.now) page.old 0 page.new result }
+// "Anything else prints only `unreadable`". All of it is read before anything is answered.
+pub fn answer(text: &[u8], page: &mut Page)
+    ensures { Puts (printed text.now) page.old page.new }
 {
-    if INPUT_ROOM <= text.len() {
-        return unreadable(page, 0);
-    }
-    let mut table = [0u64; TABLE_WORDS];
-    let Line::Numbers(count, next) = numbers_at(text, 0, &mut table) else {
-        return unreadable(page, 0);
+    let mut table = [0; TABLE_WORDS];
+    let mut pool = [0; POOL_WORDS];
+    let Some(shape) = Shape::read(text, &mut table, &mut pool) else {
+        return page.unreadable();
     };
-    if count == 0 {
-        return unreadable(page, 0);
-    }
-    with_table(&table[..count], text, next, page)
-}
-
-// The pool's line stands at `at`.
-fn with_table(table: &[u64], text: &[u8], at: usize, page: &mut [u8; PAGE_BYTES]) -> usize
-    ensures { Puts (told (with_pool text.now table.now (pool_line text.now at))) page.old 0
-        page.new result }
-{
-    let mut pool = [0u64; POOL_WORDS];
-    let Line::Numbers(count, next) = numbers_at(text, at, &mut pool) else {
-        return unreadable(page, 0);
+    let asked = Asked {
+        table: &table[..shape.table],
+        pool: &pool[..shape.pool],
+        start: shape.start,
     };
-    with_pool(table, &pool[..count], text, next, page)
-}
-
-// The start node's line stands at `at`.
-fn with_pool(
-    table: &[u64],
-    pool: &[u64],
-    text: &[u8],
-    at: usize,
-    page: &mut [u8; PAGE_BYTES],
-) -> usize
-    ensures { Puts (told (with_start text.now table.now pool.now (one_at text.now at))) page.old 0
-        page.new result }
-{
-    let One::Number(first, from) = one_at(text, at) else {
-        return unreadable(page, 0);
-    };
-    if !one_each(text, from) {
-        return unreadable(page, 0);
-    }
-    judge(table, pool, first as usize, text, from, page)
+    judge(&asked, text, shape.from, page);
 }
 
 // The print of an accepted table's input is that of its numbers; of any other it is one line.
-fn judge(
-    table: &[u64],
-    pool: &[u64],
-    first: usize,
-    text: &[u8],
-    from: usize,
-    page: &mut [u8; PAGE_BYTES],
-) -> usize
-    ensures { Judges text.now from table.now pool.now first page.old page.new result }
+fn judge(asked: &Asked<'_>, text: &[u8], from: usize, page: &mut Page)
+    ensures { Judges text.now from asked.now.table.now asked.now.pool.now asked.now.start page.old
+        page.new }
 {
-    match start(table, pool, first) {
-        Ok(()) => put_cases(table, pool, first, text, from, page),
-        Err(e) => refused_line(e.refusal, e.node, page, 0),
+    match opened(asked) {
+        Ok(()) => put_cases(asked, text, from, page),
+        Err(e) => page.refused_line(e.refusal, e.node),
     }
 }
 
 // "A refused table or start prints only `refused N at K`"
-fn start(table: &[u64], pool: &[u64], start: usize) -> Result<(), Refused>
-    ensures { result ≡ opening table.now pool.now start }
+fn opened(asked: &Asked<'_>) -> Result<(), Refused>
+    ensures { result ≡ opening asked.now.table.now asked.now.pool.now asked.now.start }
 {
     let mut plan = [0u64; PLAN];
-    begin(table, pool, &mut plan, start)
+    begin(asked.table, asked.pool, &mut plan, asked.start)
 }
 
 // A line for each number from a place on.
-fn put_cases(
-    table: &[u64],
-    pool: &[u64],
-    first: usize,
-    text: &[u8],
-    from: usize,
-    page: &mut [u8; PAGE_BYTES],
-) -> usize
-    ensures { Answers text.now from table.now pool.now first page.old page.new result }
+fn put_cases(asked: &Asked<'_>, text: &[u8], from: usize, page: &mut Page)
+    ensures { Answers text.now from asked.now.table.now asked.now.pool.now asked.now.start page.old
+        page.new }
 {
-    let mut used = 0;
     let mut at = from;
-    loop {
-        match one_at(text, at) {
-            One::Number(n, next) => {
-                used = put_answer(table, pool, first, n, page, used);
-                at = next;
-            }
-            One::Not => return used,
-        }
+    while let Some(one) = one_at(text, at) {
+        put_answer(asked, one.number, page);
+        at = one.next;
     }
 }
 
 // "Otherwise each number prints `case I: ` and its cells with single spaces, or `case I refused N`"
-fn put_answer(
-    table: &[u64],
-    pool: &[u64],
-    first: usize,
-    n: u64,
-    page: &mut [u8; PAGE_BYTES],
-    used: usize,
-) -> usize
-    ensures { Puts (case_line table.now pool.now first n) page.old used page.new result }
+fn put_answer(asked: &Asked<'_>, n: u64, page: &mut Page)
+    ensures { Puts (case_line asked.now.table.now asked.now.pool.now asked.now.start n) page.old
+        page.new }
 {
     let mut cells = [0u64; ROOM];
-    match cases::write(table, pool, first, n, &mut cells) {
-        Ok(count) => put_case(n, &cells[..count], page, used),
-        Err(e) => put_case_refused(n, e.refusal, page, used),
+    match cases::write(asked.table, asked.pool, asked.start, n, &mut cells) {
+        Ok(count) => put_case(n, &cells[..count], page),
+        Err(e) => put_case_refused(n, e.refusal, page),
     }
 }
 
-fn put_case(n: u64, cells: &[u64], page: &mut [u8; PAGE_BYTES], used: usize) -> usize
-    ensures { Puts (case_text n cells.now) page.old used page.new result }
+fn put_case(n: u64, cells: &[u64], page: &mut Page)
+    ensures { Puts (case_text n cells.now) page.old page.new }
 {
-    let named = put_text(b"case ", page, used);
-    let numbered = put_number(n, page, named);
-    let parted = put_text(b": ", page, numbered);
-    put_line(cells, page, parted)
+    page.put_text(b"case ");
+    page.put_number(n);
+    page.put_text(b": ");
+    page.put_line(cells);
 }
 
-fn put_case_refused(n: u64, refusal: Refusal, page: &mut [u8; PAGE_BYTES], used: usize) -> usize
-    ensures { Puts (case_refused_text n refusal) page.old used page.new result }
+fn put_case_refused(n: u64, refusal: Refusal, page: &mut Page)
+    ensures { Puts (case_refused_text n refusal) page.old page.new }
 {
-    let named = put_text(b"case ", page, used);
-    let numbered = put_number(n, page, named);
-    let said = put_text(b" refused ", page, numbered);
-    let placed = put_number(number_of(refusal), page, said);
-    put_text(b"\n", page, placed)
+    page.put_text(b"case ");
+    page.put_number(n);
+    page.put_text(b" refused ");
+    page.put_number(number_of(refusal));
+    page.put_text(b"\n");
 }

@@ -14,24 +14,25 @@ use Rattle.rows.specs.declared.reader.Next.{Next}
 use Rattle.rows.specs.declared.reader.Stride.{Stride}
 use Rattle.rows.proofs.CountedRows.{next_moves}
 use Rattle.texts.specs.Ascii.{bytes}
+use Rattle.texts.specs.declared.page.Page.{Page}
 use Rattle.texts.specs.Page.{Puts}
 use Rattle.texts.specs.Said.{refused_line}
 use Rattle.texts.proofs.page.Putting.{none, told, ◌then◌}
 use Rattle.asking.specs.Texts.{item_text}
 use Rattle.row_calls.specs.Reader.{onward, asks_by, asks_text}
 
-pub record Asking (t p : List ℕ) (i : ℕ) (row page : List ℕ) (used : ℕ) (now : List ℕ) (waits at : ℕ) : Type 0 where
+pub record Asking (t p : List ℕ) (i : ℕ) (row : List ℕ) (page now : Page) (at : ℕ) : Type 0 where
   pub said : List ℕ
   pub times : ℕ
   pub enough : length row - at < times
   pub is : asks_text t p i row ≡ said ++ asks_by times t p i row at
-  pub so_far : Puts said page used now waits
+  pub so_far : Puts said page now
 
-pub ask_none : {t p : List ℕ} {i : ℕ} {row page : List ℕ} {used : ℕ} → Asking t p i row page used page used 0
+pub ask_none : {t p : List ℕ} {i : ℕ} {row : List ℕ} {page : Page} → Asking t p i row page page 0
 unfolding asks_text
 ask_none {row = row} = record { said = []; times = suc (length row); enough = omega arith; is = refl; so_far = none }
 
-module _ {t p : List ℕ} {i : ℕ} {row page now : List ℕ} {used waits at : ℕ} (s : Asking t p i row page used now waits at) {next : Stride}
+module _ {t p : List ℕ} {i : ℕ} {row : List ℕ} {page now : Page} {at : ℕ} (s : Asking t p i row page now at) {next : Stride}
     (e : next ≡ stride_of t p i row at) where
   asks_step : (times : ℕ) → length row - at < times → {x : Reply} → next.answer ≡ x
       → (f : ℕ) × (times ≡ suc f) × (asks_by times t p i row at ≡ onward x (asks_by f t p i row next.at))
@@ -51,8 +52,7 @@ module _ {t p : List ℕ} {i : ℕ} {row page now : List ℕ} {used waits at : �
       let to = ap (λ (x : Stride). x.at) e ∙ ap (after_of at) is in
       omega arith
 
-  pub ask_more : {d : Next} → next.answer ≡ Ok (Some d) → {last : List ℕ} {r : ℕ} → Puts (item_text d.number d.cells) now waits last r
-      → Asking t p i row page used last r next.at
+  pub ask_more : {d : Next} → next.answer ≡ Ok (Some d) → {last : Page} → Puts (item_text d.number d.cells) now last → Asking t p i row page last next.at
   ask_more {d} q g =
       let (f, less, text) = asks_step s.times s.enough q in
       record {
@@ -63,9 +63,8 @@ module _ {t p : List ℕ} {i : ℕ} {row page now : List ℕ} {used waits at : �
         so_far = s.so_far then g;
       }
 
-  pub ask_end : next.answer ≡ Ok None → {last : List ℕ} {r : ℕ} → Puts (bytes "end\n") now waits last r → Puts (asks_text t p i row) page used last r
+  pub ask_end : next.answer ≡ Ok None → {last : Page} → Puts (bytes "end\n") now last → Puts (asks_text t p i row) page last
   ask_end q g = let (f, less, text) = asks_step s.times s.enough q in told (sym (s.is ∙ ap (λ (y : List ℕ). s.said ++ y) text)) (s.so_far then g)
 
-  pub ask_refused : {x : Refused} → next.answer ≡ Err x → {last : List ℕ} {r : ℕ} → Puts (refused_line x.refusal x.node) now waits last r
-      → Puts (asks_text t p i row) page used last r
+  pub ask_refused : {x : Refused} → next.answer ≡ Err x → {last : Page} → Puts (refused_line x.refusal x.node) now last → Puts (asks_text t p i row) page last
   ask_refused q g = let (f, less, text) = asks_step s.times s.enough q in told (sym (s.is ∙ ap (λ (y : List ℕ). s.said ++ y) text)) (s.so_far then g)

@@ -16,6 +16,7 @@ use Rattle.rows.specs.declared.answer.Row.{Row}
 use Rattle.rows.specs.declared.answer.RowRefused.{RowRefused}
 use Rattle.rows.proofs.CountedRows.{got_size, got_numbers}
 use Rattle.rows.proofs.Values.{wrote_row_is, got_row_is}
+use Rattle.texts.specs.declared.page.Page.{Page}
 use Rattle.texts.specs.Page.{Puts}
 use Rattle.texts.proofs.page.Putting.{told}
 use Rattle.asking.specs.Buffer.{start_words}
@@ -25,17 +26,16 @@ use Rattle.row_calls.specs.Row.{row_text, PrintsRow}
 
 -- ---- by the answer, and by the words that the call wrote and those that it left
 module _ (old words : List ℕ) {filled last : List ℕ} {r says : Outcome} (start : filled ≡ start_words 0 (length old)) (holds : last ≡ leaves r words filled)
-    (is : r ≡ says) {page page' : List ℕ} {used s : ℕ} where
-  prints : Puts (row_text words r) page used page' s → PrintsRow words says old last page used page' s
+    (is : r ≡ says) {page page' : Page} where
+  prints : Puts (row_text words r) page page' → PrintsRow words says old last page page'
   prints g = record { puts = rw (← is) g; buffer = rw (← is, ← start) holds }
 
   pub row_done : {d : Row} {size : ℕ} → r ≡ Ok d → size ≡ length words → take size last ≡ words
-      → Puts (items_text d.items ++ (cells_text d.cells (take size last) ++ end_text last size)) page used page' s → PrintsRow words says old last page used page' s
+      → Puts (items_text d.items ++ (cells_text d.cells (take size last) ++ end_text last size)) page page' → PrintsRow words says old last page page'
   unfolding row_text
   row_done e n same g = prints (told (rw (e, same, end_done (length old) words filled n (holds ∙ ap (λ (x : Outcome). leaves x words filled) e) start)) g)
 
-  pub row_refused : {x : RowRefused} → r ≡ Err x → Puts (refused_item x.refusal x.node x.item ++ end_text last 0) page used page' s
-      → PrintsRow words says old last page used page' s
+  pub row_refused : {x : RowRefused} → r ≡ Err x → Puts (refused_item x.refusal x.node x.item ++ end_text last 0) page page' → PrintsRow words says old last page page'
   unfolding row_text
   row_refused e g = prints (told (rw (e, end_left (length old) (holds ∙ ap (λ (x : Outcome). leaves x words filled) e) start)) g)
 

@@ -10,7 +10,7 @@ use Rattle.texts.specs.Numeral.{run, value_from, well_formed, numeral, numeral_a
 use Rattle.texts.specs.Decimal.{decimal_by, decimal}
 use Rattle.texts.specs.Line.{Reading, numbers, unreadable, ended, words, number_of, numbers_of, line_at}
 use Rattle.texts.specs.declared.numeral.Numeral.{Numeral}
-use Rattle.texts.specs.declared.numeral.Numeral.TheVariants.{Of, Not}
+use Rattle.std.specs.Prelude.{Option, Some, None}
 
 -- a text, a place in it, and the outcome
 data Case (A : Type 0) : Type 0 where
@@ -23,26 +23,30 @@ abbrev expected : {A : Type 0} → Case A → A
 expected (case s at a) = a
 
 -- ---- numbers
-abbrev numerals : List (Case Numeral)
+-- the number, and the place after its digits
+abbrev of : ℕ → ℕ → Option Numeral
+of value end = Some (record { value = value; end = end })
+
+abbrev numerals : List (Case (Option Numeral))
 numerals =
-    case "0" 0 (Of 0 1)
-    ∷ case "120 7" 0 (Of 120 3)
-    ∷ case "120 7" 1 (Of 20 3)
-    ∷ case "120 7" 2 (Of 0 3)
-    ∷ case "120 7" 3 Not
-    ∷ case "120 7" 4 (Of 7 5)
-    ∷ case "120 7" 5 Not
-    ∷ case "120 7" 6 Not
-    ∷ case "00" 0 Not
-    ∷ case "07" 0 Not
-    ∷ case "+7" 0 Not
-    ∷ case "-7" 0 Not
-    ∷ case "9/" 0 (Of 9 1)
-    ∷ case "9:" 0 (Of 9 1)
-    ∷ case "18446744073709551615" 0 (Of (2 ^ 64 - 1) 20)
-    ∷ case "18446744073709551616" 0 Not
-    ∷ case "20000000000000000000" 0 Not
-    ∷ case "100000000000000000000" 0 Not
+    case "0" 0 (of 0 1)
+    ∷ case "120 7" 0 (of 120 3)
+    ∷ case "120 7" 1 (of 20 3)
+    ∷ case "120 7" 2 (of 0 3)
+    ∷ case "120 7" 3 None
+    ∷ case "120 7" 4 (of 7 5)
+    ∷ case "120 7" 5 None
+    ∷ case "120 7" 6 None
+    ∷ case "00" 0 None
+    ∷ case "07" 0 None
+    ∷ case "+7" 0 None
+    ∷ case "-7" 0 None
+    ∷ case "9/" 0 (of 9 1)
+    ∷ case "9:" 0 (of 9 1)
+    ∷ case "18446744073709551615" 0 (of (2 ^ 64 - 1) 20)
+    ∷ case "18446744073709551616" 0 None
+    ∷ case "20000000000000000000" 0 None
+    ∷ case "100000000000000000000" 0 None
     ∷ []
 
 numerals_worked : map (outcome numeral_at) numerals ≡ map expected numerals

@@ -4,4 +4,3 @@ mod Words
 mod Rest
 mod Counting
 mod Storing
-mod Passes

@@ -1,3 +1,2 @@
 -- How texts are put on a page, and numbers spelled.
 pub mod Putting
-mod Spelling

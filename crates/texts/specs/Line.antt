@@ -7,15 +7,12 @@
 --   spaced      the text of numbers, each after a space
 --   ReadLine    what reading a line answers, and what it leaves in the words lent for it
 -- Assumes nothing.
-use Rattle.std.specs.Prelude.{◌≡◌, cond, List, [], ◌∷◌, ◌++◌, ℕ, ◌+◌, eqb, leb, length, drop}
-use Rattle.std.proofs.Math.Option.{Option, none, some, map}
+use Rattle.std.specs.Prelude.{◌≡◌, cond, List, [], ◌∷◌, ◌++◌, ℕ, ◌+◌, eqb, leb, length, drop, Option, Some, None, option_map}
 use Rattle.texts.specs.Ascii.{lf, space}
 use Rattle.texts.specs.Numeral.{numeral_at}
 use Rattle.texts.specs.Decimal.{decimal}
 use Rattle.texts.specs.declared.numeral.Numeral.{Numeral}
-use Rattle.texts.specs.declared.numeral.Numeral.TheVariants.{Of, Not}
 use Rattle.texts.specs.declared.line.Line.{Line}
-use Rattle.texts.specs.declared.line.Line.TheVariants.{Numbers, Unreadable}
 
 -- the numbers of a line and the place after its LF, or no such line
 pub data Reading : Type 0 where
@@ -23,8 +20,8 @@ pub data Reading : Type 0 where
   unreadable : Reading
 
 unfoldable pub ended : List ℕ → Option (List ℕ)
-ended [] = none
-ended (b ∷ bs) = cond (eqb b lf) (some []) (map (b ∷◌) (ended bs))
+ended [] = None
+ended (b ∷ bs) = cond (eqb b lf) (Some []) (option_map (b ∷◌) (ended bs))
 
 -- the first word with one more byte in front
 abbrev pub longer : ℕ → List (List ℕ) → List (List ℕ)
@@ -37,36 +34,36 @@ words [] = [] ∷ []
 words (b ∷ bs) = cond (eqb b space) ([] ∷ words bs) (longer b (words bs))
 
 -- a number that ends where the word ends
-abbrev pub whole : ℕ → Numeral → Option ℕ
-whole size (Of n end) = cond (eqb end size) (some n) none
-whole size Not = none
+abbrev pub whole : ℕ → Option Numeral → Option ℕ
+whole size (Some n) = cond (eqb n.end size) (Some n.value) None
+whole size None = None
 
 unfoldable pub number_of : List ℕ → Option ℕ
 number_of w = whole (length w) (numeral_at w 0)
 
 -- a number and those behind it, if all are there
 abbrev pub both : Option ℕ → Option (List ℕ) → Option (List ℕ)
-both (some n) (some ns) = some (n ∷ ns)
-both (some n) none = none
-both none ns = none
+both (Some n) (Some ns) = Some (n ∷ ns)
+both (Some n) None = None
+both None ns = None
 
 -- each word is a number
 unfoldable pub numbers_of : List (List ℕ) → Option (List ℕ)
-numbers_of [] = some []
+numbers_of [] = Some []
 numbers_of (w ∷ ws) = both (number_of w) (numbers_of ws)
 
 -- an empty line has no numbers; any other has one to each word
 abbrev pub line_numbers : List ℕ → Option (List ℕ)
-line_numbers [] = some []
+line_numbers [] = Some []
 line_numbers (b ∷ bs) = numbers_of (words (b ∷ bs))
 
 abbrev pub up_to : ℕ → Option (List ℕ) → Reading
-up_to next (some ns) = numbers ns next
-up_to next none = unreadable
+up_to next (Some ns) = numbers ns next
+up_to next None = unreadable
 
 abbrev pub line_by : ℕ → Option (List ℕ) → Reading
-line_by at (some line) = up_to (at + length line + 1) (line_numbers line)
-line_by at none = unreadable
+line_by at (Some line) = up_to (at + length line + 1) (line_numbers line)
+line_by at None = unreadable
 
 unfoldable pub line_at : List ℕ → ℕ → Reading
 line_at text at = line_by at (ended (drop at text))
@@ -76,16 +73,16 @@ abbrev pub within : ℕ → Reading → Reading
 within room (numbers ns next) = cond (leb (length ns) room) (numbers ns next) unreadable
 within room unreadable = unreadable
 
-abbrev pub answer : Reading → Line
-answer (numbers ns next) = Numbers (length ns) next
-answer unreadable = Unreadable
+abbrev pub answer : Reading → Option Line
+answer (numbers ns next) = Some (record { count = length ns; next = next })
+answer unreadable = None
 
 -- the numbers stand at the front, and the rest keeps its words
 abbrev pub stored : List ℕ → Reading → List ℕ
 stored old (numbers ns next) = ns ++ drop (length ns) old
 stored old unreadable = old
 
-pub record ReadLine (text : List ℕ) (at : ℕ) (old last : List ℕ) (r : Line) : Type 0 where
+pub record ReadLine (text : List ℕ) (at : ℕ) (old last : List ℕ) (r : Option Line) : Type 0 where
   pub answers : r ≡ answer (within (length old) (line_at text at))
   pub leaves : last ≡ stored old (within (length old) (line_at text at))
 

@@ -2,15 +2,12 @@
 --   run          the longest run of digits at the front of a text
 --   value        the number that a run of digits is, whole and without limit
 --   well_formed   a run that is not empty and has no leading zero unless it is "0" itself
---   numeral_at    the number at a place, below 2^64, and the place after its digits
---   worded       a number as a word, or past 2^64
+--   numeral_at    the number at a place, below 2^64, and the place after its digits, if there is one
+--   worded       a number as a word, if it is below 2^64
 -- Assumes nothing.
-use Rattle.std.specs.Prelude.{Bool, true, false, not, cond, ◌&&◌, List, [], ◌∷◌, ℕ, ◌+◌, ◌*◌, ◌-◌, ◌^◌, eqb, ltb, length, drop}
+use Rattle.std.specs.Prelude.{Bool, true, false, not, cond, ◌&&◌, List, [], ◌∷◌, ℕ, ◌+◌, ◌*◌, ◌-◌, ◌^◌, eqb, ltb, length, drop, Option, Some, None}
 use Rattle.texts.specs.Ascii.{digit0, is_digit}
 use Rattle.texts.specs.declared.numeral.Numeral.{Numeral}
-use Rattle.texts.specs.declared.numeral.Numeral.TheVariants.{Of, Not}
-use Rattle.texts.specs.declared.numeral.Word.{Word}
-use Rattle.texts.specs.declared.numeral.Word.TheVariants.{Fits, Past}
 
 unfoldable pub run : List ℕ → List ℕ
 run [] = []
@@ -30,11 +27,11 @@ well_formed (d ∷ []) = true
 well_formed (d ∷ e ∷ ds) = not (eqb d digit0)
 
 -- the number of a run that starts at a place
-unfoldable pub numeral : List ℕ → ℕ → Numeral
-numeral ds at = cond (well_formed ds && ltb (value ds) (2 ^ 64)) (Of (value ds) (at + length ds)) Not
+unfoldable pub numeral : List ℕ → ℕ → Option Numeral
+numeral ds at = cond (well_formed ds && ltb (value ds) (2 ^ 64)) (Some (record { value = value ds; end = at + length ds })) None
 
-abbrev pub numeral_at : List ℕ → ℕ → Numeral
+abbrev pub numeral_at : List ℕ → ℕ → Option Numeral
 numeral_at text at = numeral (run (drop at text)) at
 
-unfoldable pub worded : ℕ → Word
-worded n = cond (ltb n (2 ^ 64)) (Fits n) Past
+unfoldable pub worded : ℕ → Option ℕ
+worded n = cond (ltb n (2 ^ 64)) (Some n) None

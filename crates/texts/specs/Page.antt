@@ -4,10 +4,9 @@
 --   page_after, waiting what the page holds once a text is put on it, byte by byte, and how many bytes wait there then
 --   Puts               a text that is put on a page
 --   Waits              all of a text was put on a page on which nothing waited
---   Spelled            a number's digits at the end of a scratch
 -- Assumes nothing.
-use Rattle.std.specs.Prelude.{◌≡◌, cond, List, [], ◌∷◌, ◌++◌, ℕ, ◌+◌, ltb, length, take, set}
-use Rattle.texts.specs.Decimal.{decimal}
+use Rattle.std.specs.Prelude.{◌≡◌, cond, List, [], ◌∷◌, ℕ, ◌+◌, ltb, set}
+use Rattle.texts.specs.declared.page.Page.{Page}
 
 abbrev pub page_bytes : ℕ
 page_bytes = 65536
@@ -23,14 +22,11 @@ unfoldable pub waiting : List ℕ → ℕ → ℕ
 waiting [] used = used
 waiting (b ∷ bs) used = waiting bs (place used + 1)
 
-pub record Puts (text old : List ℕ) (used : ℕ) (last : List ℕ) (r : ℕ) : Type 0 where
-  pub page : last ≡ page_after text old used
-  pub waits : r ≡ waiting text used
+pub record Puts (text : List ℕ) (old last : Page) : Type 0 where
+  pub page : last.bytes ≡ page_after text old.bytes old.used
+  pub waits : last.used ≡ waiting text old.used
 
-pub record Waits (text page : List ℕ) (used : ℕ) : Type 0 where
-  pub old : List ℕ
-  pub puts : Puts text old 0 page used
-
-pub record Spelled (n : ℕ) (old last : List ℕ) (r : ℕ) : Type 0 where
-  pub begins : r + length (decimal n) ≡ length old
-  pub holds : last ≡ take r old ++ decimal n
+pub record Waits (text : List ℕ) (page : Page) : Type 0 where
+  pub old : Page
+  pub none : old.used ≡ 0
+  pub puts : Puts text old page

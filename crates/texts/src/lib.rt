@@ -6,3 +6,4 @@ pub mod line;
 pub mod numeral;
 pub mod page;
 pub mod said;
+pub mod streams;

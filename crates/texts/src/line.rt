@@ -3,72 +3,64 @@ ghost use Rattle.std.specs.Prelude.{◌≡◌, length};
 ghost use Rattle.texts.specs.Line.{line_at, within, answer, stored, ReadLine, HasCount};
 
 use super::ascii::{LF, SPACE};
-use super::numeral::{Numeral, number_at};
+use super::numeral::number_at;
 
-// How many numbers there are and the place after the LF, or no such line.
-#[derive(Drop)]
-pub enum Line {
-    Numbers(usize, usize),
-    Unreadable,
+// How many numbers a line has, and the place after its LF.
+#[derive(Clone, Copy, Debug, PartialEq, Eq)]
+pub struct Line {
+    pub count: usize,
+    pub next: usize,
 }
 
 // `out` changes only where the whole line is readable and its numbers have room.
-pub fn numbers_at(text: &[u8], at: usize, out: &mut [u64]) -> Line
+pub fn numbers_at(text: &[u8], at: usize, out: &mut [u64]) -> Option<Line>
     ensures { ReadLine text.now at out.old out.new result }
 {
-    match count_at(text, at, out.len()) {
-        Line::Numbers(count, next) => {
-            store(text, at, count, out);
-            Line::Numbers(count, next)
-        }
-        Line::Unreadable => Line::Unreadable,
-    }
+    let line = count_at(text, at, out.len())?;
+    store(text, at, &mut out[..line.count]);
+    Some(line)
 }
 
 // Decides and counts.
-fn count_at(text: &[u8], at: usize, room: usize) -> Line
+fn count_at(text: &[u8], at: usize, room: usize) -> Option<Line>
     ensures { result ≡ answer (within room (line_at text.now at)) }
 {
-    if text.len() <= at {
-        return Line::Unreadable;
+    if *text.get(at)? == LF {
+        return Some(Line {
+            count: 0,
+            next: at + 1,
+        });
     }
-    if text[at] == LF {
-        return Line::Numbers(0, at + 1);
-    }
-    let mut count: usize = 0;
     let mut i = at;
-    while count < room {
-        let Numeral::Of(_, end) = number_at(text, i) else {
-            return Line::Unreadable;
+    for before in 0..room {
+        let end = number_at(text, i)?.end;
+        let Some(byte) = text.get(end) else {
+            return None; // no LF
         };
-        count += 1;
-        if text.len() <= end {
-            return Line::Unreadable; // no LF
+        let next = end + 1;
+        match *byte {
+            LF => {
+                let count = before + 1;
+                return Some(Line { count, next });
+            }
+            SPACE => i = next,
+            _ => return None,
         }
-        if text[end] == LF {
-            return Line::Numbers(count, end + 1);
-        }
-        if text[end] != SPACE {
-            return Line::Unreadable;
-        }
-        i = end + 1;
     }
-    Line::Unreadable
+    None
 }
 
-// Stores the numbers of a line that is known to have `count` of them.
-fn store(text: &[u8], at: usize, count: usize, out: &mut [u64])
-    requires { HasCount count (within (length out.old) (line_at text.now at)) }
-    ensures { out.new ≡ stored out.old (within (length out.old) (line_at text.now at)) }
+// Stores the numbers of a line that is known to have as many as `out` has words.
+fn store(text: &[u8], at: usize, out: &mut [u64])
+    requires { HasCount (length out.old) (line_at text.now at) }
+    ensures { out.new ≡ stored out.old (line_at text.now at) }
 {
     let mut i = at;
-    let mut k: usize = 0;
-    while k < count {
-        let Numeral::Of(value, end) = number_at(text, i) else {
+    for word in out.iter_mut() {
+        let Some(numeral) = number_at(text, i) else {
             return;
         };
-        out[k] = value;
-        i = end + 1;
-        k += 1;
+        *word = numeral.value;
+        i = numeral.end + 1;
     }
 }

@@ -2,28 +2,30 @@
 ghost use Rattle.texts.specs.Page.{Puts};
 ghost use Rattle.texts.specs.Said.{unreadable_text, refused_text, refused_line};
 
-use super::page::{PAGE_BYTES, put_number, put_text};
+use super::page::Page;
 use grammar::refusal::{Refusal, number_of};
 
-pub fn unreadable(page: &mut [u8; PAGE_BYTES], used: usize) -> usize
-    ensures { Puts unreadable_text page.old used page.new result }
-{
-    put_text(b"unreadable\n", page, used)
-}
+impl Page {
+    pub fn unreadable(&mut self)
+        ensures { Puts unreadable_text self.old self.new }
+    {
+        self.put_text(b"unreadable\n");
+    }
 
-// The line is left open, since some calls print more of a refusal.
-pub fn refused(refusal: Refusal, node: u64, page: &mut [u8; PAGE_BYTES], used: usize) -> usize
-    ensures { Puts (refused_text refusal node) page.old used page.new result }
-{
-    let said = put_text(b"refused ", page, used);
-    let numbered = put_number(number_of(refusal), page, said);
-    let placed = put_text(b" at ", page, numbered);
-    put_number(node, page, placed)
-}
+    // The line is left open, since some calls print more of a refusal.
+    pub fn refused(&mut self, refusal: Refusal, node: u64)
+        ensures { Puts (refused_text refusal node) self.old self.new }
+    {
+        self.put_text(b"refused ");
+        self.put_number(number_of(refusal));
+        self.put_text(b" at ");
+        self.put_number(node);
+    }
 
-pub fn refused_line(refusal: Refusal, node: u64, page: &mut [u8; PAGE_BYTES], used: usize) -> usize
-    ensures { Puts (refused_line refusal node) page.old used page.new result }
-{
-    let said = refused(refusal, node, page, used);
-    put_text(b"\n", page, said)
+    pub fn refused_line(&mut self, refusal: Refusal, node: u64)
+        ensures { Puts (refused_line refusal node) self.old self.new }
+    {
+        self.refused(refusal, node);
+        self.put_text(b"\n");
+    }
 }

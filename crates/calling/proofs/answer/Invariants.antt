@@ -5,8 +5,8 @@ use lib.ListN.{length}
 use Rattle.calling.proofs.Input.{Answering}
 use Rattle.calling.proofs.answer.Given as goal
 
-abbrev pub invariant-loop-state : goal.invariant-loop-state
-invariant-loop-state l = Answering l.text l.initial.page l.page l.state l.table l.pool
+abbrev pub invariant-loop-at : goal.invariant-loop-at
+invariant-loop-at l = Answering l.text l.initial.page l.page l.desk l.at
 
-abbrev pub decreases-loop-state : goal.decreases-loop-state
-decreases-loop-state l = length l.text - l.state.at
+abbrev pub decreases-loop-at : goal.decreases-loop-at
+decreases-loop-at l = length l.text - l.at

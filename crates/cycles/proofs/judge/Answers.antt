@@ -3,18 +3,18 @@
 use Rattle.cycles.proofs.Table.{cycles_9, cycles_10, cycles_none, cycles_no_again}
 use Rattle.cycles.proofs.judge.Goals as goal
 
-pub returns-then-u-lt-NONE : goal.returns-then-u-lt-NONE
-returns-then-u-lt-NONE c =
-    search cycles_9
+pub returns-then-not-has_again : goal.returns-then-not-has_again
+returns-then-not-has_again c =
+    cycles_no_again c.args.w.now.passed c.has_again.ensures c.if-not-has_again.true
 
-pub returns-then-e-lt-NONE : goal.returns-then-e-lt-NONE
-returns-then-e-lt-NONE c =
-    search cycles_10
+pub returns-in-Some : goal.returns-in-Some
+returns-in-Some c =
+    cycles_9 c.args.w.now.passed c.in-Some.ensures
 
-pub returns-then-has_again : goal.returns-then-has_again
-returns-then-has_again c =
-    search cycles_none
+pub returns-in-Some-except_on_cycle : goal.returns-in-Some-except_on_cycle
+returns-in-Some-except_on_cycle c =
+    cycles_10 c.args.w.now.passed c.in_default.ensures c.in-Some-except_on_cycle.ensures
 
 pub returns : goal.returns
 returns c =
-    cycles_no_again c.requires c.has_again.ensures c.if-has_again.false
+    cycles_none c.args.w.now.passed c.in_default.ensures c.in_default-except_on_cycle.ensures

@@ -1,13 +1,13 @@
 -- `cycles::unguarded` asks the agains alone, and only where marks leave it open: the lowest node of a cycle is one.
 -- Assumes nothing.
-use Rattle.graph.proofs.Lowest.{nowhere}
-use Rattle.cycles.proofs.Table.{lowest_again}
+use Rattle.grammar.proofs.PlanSizes.{ready_of}
+use Rattle.cycles.proofs.Table.{finds_none, lowest_again}
 use Rattle.cycles.proofs.unguarded.Goals as goal
 
 pub returns-then-all_safe : goal.returns-then-all_safe
 returns-then-all_safe c =
-    nowhere (c.all_safe.ensures c.if-all_safe.true)
+    finds_none (c.all_safe.ensures c.if-all_safe.true)
 
 pub returns : goal.returns
 returns c =
-    lowest_again c.requires c.lowest_asked.ensures
+    lowest_again (ready_of c.args.w.now.passed) c.lowest_asked.ensures

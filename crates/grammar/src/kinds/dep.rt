@@ -1,16 +1,17 @@
 // 6 dep | node, place | a lower (4); its size m finite, at most 256 (7); b+m within the pool (5); each of those m words
 // a lower node (4); all finite or all endless (7); size (8) | sum of the seconds
-ghost use Rattle.std.specs.Prelude.{◌≡◌, List, ℕ, ◌+◌, ◌*◌, ◌^◌, ◌<◌, ◌≤◌, length, get_or, take, drop};
+ghost use Rattle.std.specs.Prelude.{◌≡◌, List, ◌∷◌, ℕ, ◌+◌, ◌*◌, ◌^◌, ◌<◌, ◌≤◌, length, get_or, take, drop};
 ghost use Rattle.numbers.specs.Joined.{capped};
 ghost use Rattle.numbers.specs.Dep.{in_turn};
 ghost use Rattle.numbers.specs.Dep;
 ghost use Rattle.grammar.specs.Kind.{before};
+ghost use Rattle.grammar.specs.Named.{named};
 ghost use Rattle.grammar.specs.Nodes.{node_with};
 ghost use Rattle.grammar.specs.Plan.{size_in, size_word, coded, weighed};
 ghost use Rattle.grammar.specs.Rule.{part};
 ghost use Rattle.grammar.specs.kinds.Dep.{counts, seconds_of, seconds_row, dep};
 ghost use Rattle.grammar.specs.Seconds.{firsts, DepIn};
-ghost use Rattle.grammar.specs.Shown.{seconds_sized, ShowsDep, NamesDep};
+ghost use Rattle.grammar.specs.Shown.{seconds_in, seconds_sized, ShowsDep};
 
 use super::super::entry::Entry;
 use super::super::named::Named;
@@ -146,16 +147,13 @@ pub fn join(pool: &[u64], plan: &[Entry], a: usize, b: usize, x: u64, y: u64) ->
 }
 
 // "to a dep's first and each second"
-pub fn steps(plan: &[Entry], a: usize, b: usize) -> Named
-    requires { a < length plan.now }
-    ensures { NamesDep plan.now a b result }
+pub fn steps<'a>(pool: &'a [u64], plan: &[Entry], a: usize, b: usize) -> Named<'a>
+    requires { (a < length plan.now) × (b + firsts plan.now a ≤ length pool.now) }
+    ensures { named result ≡ a ∷ seconds_in plan.now pool.now a b }
 {
     Named {
-        first: true,
-        second: false,
-        a,
-        b: 0,
-        at: b,
-        count: plan[a].size as usize,
+        first: Some(a),
+        second: None,
+        rest: run(pool, b, plan[a].size as usize),
     }
 }

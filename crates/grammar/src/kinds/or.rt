@@ -7,7 +7,7 @@ ghost use Rattle.grammar.specs.Nodes.{node_with};
 ghost use Rattle.grammar.specs.Rule.{part};
 ghost use Rattle.grammar.specs.kinds.Or.{or, or_rule};
 ghost use Rattle.grammar.specs.Plan.{size_in, weighed};
-ghost use Rattle.grammar.specs.Named.{Names};
+ghost use Rattle.grammar.specs.Named.{named};
 ghost use Rattle.grammar.specs.Shown.{ShowsTagged};
 
 use super::super::entry::Entry;
@@ -29,8 +29,8 @@ pub fn check(plan: &[Entry], n: usize, a: usize, b: usize) -> Result<u64, Refusa
 }
 
 // "to both parts"; a step to the second part guards a cycle.
-pub fn steps(a: usize, b: usize, guarded: bool) -> Named
-    ensures { (p : List ℕ) → Names p (a ∷ pick guarded (b ∷ []) []) result }
+pub fn steps<'a>(a: usize, b: usize, guarded: bool) -> Named<'a>
+    ensures { named result ≡ a ∷ pick guarded (b ∷ []) [] }
 {
     if guarded {
         return two(a, b);

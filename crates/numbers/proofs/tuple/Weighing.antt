@@ -63,7 +63,9 @@ one_weighed {r} {m} all {w} s l k i b = by (eqb i m) refl
   where
     by : (q : Bool) → eqb i m ≡ q → AreWays r i (get_or (set all m w) i nowhere)
     by true x = let z = eqb-true i m x in rw (z, get_or-set_same all m w nowhere l) k
-    by false x = let z = eqb-false i m x in rw (get_or-set_other all m i w nowhere z) (s i (omega (arith, z)))
+    by false x =
+        let z = eqb-false i m x in
+        rw (get_or-set_other all m i w nowhere z) (s i (omega (arith, z)))
 
 pub weight_is : {r : ℕ} (all : List Ways) (s : Weights r all) (seen : Bool) (m : ℕ) → m < length all → weight (get_or all m nowhere) seen ≡ ways seen r m
 weight_is all s true m l = s.ways_met m l

@@ -11,7 +11,7 @@ loop-at-init c =
 
 pub loop-at-smaller : goal.loop-at-smaller
 loop-at-smaller c =
-    let w = number_within c.args.text.now c.loop-at.at (sym c.number_at.ensures ∙ c.in-Of.is) in
+    let w = number_within c.args.text.now c.loop-at.at (sym c.number_at.ensures ∙ c.in-Some.is) in
     omega (arith, w)
 
 pub loop-at-preserved : goal.loop-at-preserved

@@ -7,7 +7,7 @@
 use mathlib.Core.Path.{◌≡◌, refl}
 use mathlib.Core.Bool.{Bool, true, false}
 use mathlib.Core.List.{List, [], ◌∷◌, ◌++◌, append-nil}
-use mathlib.Core.Option.{Option, none, some, map}
+use Rattle.std.specs.Prelude.{Option, Some, None, option_map}
 use Prim.Native.Nat.{ℕ}
 use native.Mathlib.Omega.{arith}
 use lib.Dec.{eqb}
@@ -17,7 +17,6 @@ use Rattle.texts.specs.Ascii.{is_digit}
 use Rattle.texts.specs.Numeral.{run, numeral}
 use Rattle.texts.specs.Line.{ended, words, whole, number_of}
 use Rattle.texts.specs.declared.numeral.Numeral.{Numeral}
-use Rattle.texts.specs.declared.numeral.Numeral.TheVariants.{Of, Not}
 use Rattle.texts.proofs.numeral.Digits.{digit_low, Digits, run_of, numeral_of, numeral_not}
 
 not_lf : (d : ℕ) → is_digit d ≡ true → eqb d 10 ≡ false
@@ -26,18 +25,18 @@ not_lf d e = ne_eqb d 10 (omega (arith, digit_low d e))
 not_space : (d : ℕ) → is_digit d ≡ true → eqb d 32 ≡ false
 not_space d e = ne_eqb d 32 (omega (arith, digit_low d e))
 
-pub ended_digits : (ds rest : List ℕ) → Digits ds → ended (ds ++ rest) ≡ map (ds ++◌) (ended rest)
+pub ended_digits : (ds rest : List ℕ) → Digits ds → ended (ds ++ rest) ≡ option_map (ds ++◌) (ended rest)
 unfolding ended
 ended_digits [] rest h = by (ended rest)
   where
-    by : (o : Option (List ℕ)) → o ≡ map ([] ++◌) o
-    by none = refl
-    by (some l) = refl
+    by : (o : Option (List ℕ)) → o ≡ option_map ([] ++◌) o
+    by None = refl
+    by (Some l) = refl
 ended_digits (d ∷ ds) rest h = rw (not_lf d h.0, ended_digits ds rest h.1) (by (ended rest))
   where
-    by : (o : Option (List ℕ)) → map (d ∷◌) (map (ds ++◌) o) ≡ map ((d ∷ ds) ++◌) o
-    by none = refl
-    by (some l) = refl
+    by : (o : Option (List ℕ)) → option_map (d ∷◌) (option_map (ds ++◌) o) ≡ option_map ((d ∷ ds) ++◌) o
+    by None = refl
+    by (Some l) = refl
 
 -- ---- words
 pub record FirstWord (l : List ℕ) : Type 0 where
@@ -65,18 +64,18 @@ module _ (ds : List ℕ) (h : Digits ds) where
   run_all = rw append-nil at (run_of ds [] h tt)
 
   module _ (at : ℕ) where
-    pub number_of_lem : {v e : ℕ} → numeral ds at ≡ Of v e → number_of ds ≡ some v
+    pub number_of_lem : {n : Numeral} → numeral ds at ≡ Some n → number_of ds ≡ Some n.value
     unfolding number_of
     number_of_lem g = rw (run_all, (numeral_of ds at g).1, eq-eqb (length ds) (length ds) refl)
 
-    pub number_not : numeral ds at ≡ Not → number_of ds ≡ none
+    pub number_not : numeral ds at ≡ None → number_of ds ≡ None
     unfolding number_of
     number_not g = rw (run_all, numeral_not ds at g)
 
-  pub number_other : (b : ℕ) (w : List ℕ) → is_digit b ≡ false → number_of (ds ++ b ∷ w) ≡ none
+  pub number_other : (b : ℕ) (w : List ℕ) → is_digit b ≡ false → number_of (ds ++ b ∷ w) ≡ None
   unfolding number_of
   number_other b w f = rw (run_of ds (b ∷ w) h f) (by (numeral ds 0) refl)
     where
-      by : (n : Numeral) → numeral ds 0 ≡ n → whole (length (ds ++ b ∷ w)) n ≡ none
-      by (Of v e) g = rw (ne_eqb e (length (ds ++ b ∷ w)) (omega (arith, (numeral_of ds 0 g).0, length-append ds (b ∷ w))))
-      by Not g = refl
+      by : (n : Option Numeral) → numeral ds 0 ≡ n → whole (length (ds ++ b ∷ w)) n ≡ None
+      by (Some n) g = rw (ne_eqb n.end (length (ds ++ b ∷ w)) (omega (arith, (numeral_of ds 0 g).0, length-append ds (b ∷ w))))
+      by None g = refl

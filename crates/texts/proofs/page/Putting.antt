@@ -1,8 +1,8 @@
 -- Texts put on a page, one behind another.
---   place_front, _in, _within      a byte goes within the page
+--   place_in, _front, _within      where the next byte goes
 --   one, ◌then◌, told              a byte, a text behind another, and a text by another name
---   Putting, put_none, put_more    a text, byte by byte
---   Listing, list_none, list_more  words, a space before each
+--   Putting, put_none, _more, _all a text, byte by byte
+--   Listing, list_none, _more, _all numbers, a space before each
 --   line_none, line_some           a line of numbers
 -- Assumes nothing.
 use mathlib.Core.Path.{◌≡◌, refl, sym, subst, ◌∙◌}
@@ -15,10 +15,12 @@ use lib.Dec.{ltb}
 use lib.ListN.{length, get_or, take, drop, set}
 use lib.Seq.{take-suc, take_all}
 use borrow.Author.Tests.{ltb-true, lt-ltb, le-ltb}
+use Rattle.texts.specs.declared.page.Page.{Page}
 use Rattle.texts.specs.Decimal.{decimal}
 use Rattle.texts.specs.Page.{page_bytes, place, page_after, waiting, Puts}
 use Rattle.texts.specs.Line.{line_text, spaced}
 
+-- ---- a byte
 pub place_in : (used : ℕ) → used < page_bytes → used ≡ place used
 unfolding place
 place_in used l = rw (lt-ltb used page_bytes l)
@@ -35,6 +37,10 @@ place_within used f = rw f (by (ltb used page_bytes) refl)
     by true e = ltb-true used page_bytes e
     by false e = omega arith
 
+pub one : {old : Page} {b at : ℕ} → at ≡ place old.used → Puts (b ∷ []) old (record { bytes = set old.bytes at b; used = at + 1 })
+unfolding page_after waiting
+one e = record { page = rw e; waits = rw e }
+
 -- ---- a text behind another
 page_then : (a b page : List ℕ) (used : ℕ) → page_after (a ++ b) page used ≡ page_after b (page_after a page used) (waiting a used)
 unfolding page_after waiting
@@ -47,57 +53,53 @@ waits_then [] b used = refl
 waits_then (x ∷ a) b used = waits_then a b (place used + 1)
 
 infixl 20 ◌then◌
-pub ◌then◌ : {a b old mid last : List ℕ} {used m r : ℕ} → Puts a old used mid m → Puts b mid m last r → Puts (a ++ b) old used last r
-◌then◌ {a} {b} {old} {mid} {last} {used} p q =
-    record { page = q.page ∙ rw (p.page, p.waits) (sym (page_then a b old used)); waits = q.waits ∙ rw p.waits (sym (waits_then a b used)) }
+pub ◌then◌ : {a b : List ℕ} {old mid last : Page} → Puts a old mid → Puts b mid last → Puts (a ++ b) old last
+◌then◌ {a} {b} {old} {mid} {last} p q =
+    record {
+      page = q.page ∙ rw (p.page, p.waits) (sym (page_then a b old.bytes old.used));
+      waits = q.waits ∙ rw p.waits (sym (waits_then a b old.used));
+    }
 
 -- a text by another name
-pub told : {a b : List ℕ} → a ≡ b → {old last : List ℕ} {used r : ℕ} → Puts a old used last r → Puts b old used last r
-told e {old} {last} {used} {r} p = subst (λ (text : List ℕ). Puts text old used last r) e p
+pub told : {a b : List ℕ} → a ≡ b → {old last : Page} → Puts a old last → Puts b old last
+told e {old} {last} p = subst (λ (text : List ℕ). Puts text old last) e p
 
-pub none : {old : List ℕ} {used : ℕ} → Puts [] old used old used
+-- ---- a text, byte by byte
+pub none : {old : Page} → Puts [] old old
 unfolding page_after waiting
 none = record { page = refl; waits = refl }
 
-pub one : {old : List ℕ} {used b at : ℕ} → at ≡ place used → Puts (b ∷ []) old used (set old at b) (at + 1)
-unfolding page_after waiting
-one e = record { page = rw e; waits = rw e }
+pub record Putting (text : List ℕ) (old now : Page) (i : ℕ) : Type 0 where
+  pub so_far : Puts (take i text) old now
 
--- ---- a text, byte by byte
-pub record Putting (text old : List ℕ) (used : ℕ) (now : List ℕ) (waits i : ℕ) : Type 0 where
-  pub few : i ≤ length text
-  pub so_far : Puts (take i text) old used now waits
+pub put_none : {text : List ℕ} {old : Page} → Putting text old old 0
+put_none = record { so_far = none }
 
-pub put_none : {text old : List ℕ} {used : ℕ} → Putting text old used old used 0
-put_none = record { few = omega arith; so_far = none }
+module _ {text : List ℕ} {old now : Page} {i : ℕ} (s : Putting text old now i) where
+  pub put_more : i < length text → {last : Page} → Puts (get_or text i 0 ∷ []) now last → Putting text old last (i + 1)
+  put_more l p = record { so_far = rw (add-one, take-suc text i 0 l) (s.so_far then p) }
 
-module _ {text old now : List ℕ} {used waits i : ℕ} (s : Putting text old used now waits i) where
-  pub put_more : i < length text → {at : ℕ} → at ≡ place waits → Putting text old used (set now at (get_or text i 0)) (at + 1) (i + 1)
-  put_more l e = record { few = omega arith; so_far = rw (add-one, take-suc text i 0 l) (s.so_far then one e) }
-
-  pub put_all : length text ≤ i → Puts text old used now waits
+  pub put_all : length text ≤ i → Puts text old now
   put_all l = rw (take_all i text l) at s.so_far
 
--- ---- words, a space before each
+-- ---- numbers, a space before each
 spaced_then : (ns : List ℕ) (n : ℕ) → spaced (ns ++ (n ∷ [])) ≡ spaced ns ++ ((32 ∷ []) ++ decimal n)
 unfolding spaced
 spaced_then [] n = append-nil ((32 ∷ []) ++ decimal n)
 spaced_then (m ∷ ns) n = rw (spaced_then ns n) (sym (append_assoc ((32 ∷ []) ++ decimal m) (spaced ns) ((32 ∷ []) ++ decimal n)))
 
-pub record Listing (ns old : List ℕ) (used : ℕ) (now : List ℕ) (waits i : ℕ) : Type 0 where
-  pub few : i ≤ length ns
-  pub so_far : Puts (spaced (take i ns)) old used now waits
+pub record Listing (ns : List ℕ) (old now : Page) (i : ℕ) : Type 0 where
+  pub so_far : Puts (spaced (take i ns)) old now
 
-pub list_none : {ns old : List ℕ} {used : ℕ} → Listing ns old used old used 0
+pub list_none : {ns : List ℕ} {old : Page} → Listing ns old old 0
 unfolding spaced
-list_none = record { few = omega arith; so_far = none }
+list_none = record { so_far = none }
 
-module _ {ns old now : List ℕ} {used waits i : ℕ} (s : Listing ns old used now waits i) where
-  pub list_more : i < length ns → {mid last : List ℕ} {m r : ℕ} → Puts (32 ∷ []) now waits mid m → Puts (decimal (get_or ns i 0)) mid m last r
-      → Listing ns old used last r (i + 1)
-  list_more l p q = record { few = omega arith; so_far = rw (add-one, take-suc ns i 0 l, spaced_then (take i ns) (get_or ns i 0)) (s.so_far then (p then q)) }
+module _ {ns : List ℕ} {old now : Page} {i : ℕ} (s : Listing ns old now i) where
+  pub list_more : i < length ns → {mid last : Page} → Puts (32 ∷ []) now mid → Puts (decimal (get_or ns i 0)) mid last → Listing ns old last (i + 1)
+  list_more l p q = record { so_far = rw (add-one, take-suc ns i 0 l, spaced_then (take i ns) (get_or ns i 0)) (s.so_far then (p then q)) }
 
-  pub list_all : length ns ≤ i → Puts (spaced ns) old used now waits
+  pub list_all : length ns ≤ i → Puts (spaced ns) old now
   list_all l = rw (take_all i ns l) at s.so_far
 
 -- ---- a line of numbers: the first, and the others with a space before each
@@ -106,14 +108,14 @@ unfolding line_text spaced
 line_spaced n [] = sym (append_assoc (decimal n) [] (10 ∷ []))
 line_spaced n (m ∷ ns) = rw (line_spaced m ns) (simp append_assoc)
 
-pub line_none : (ns : List ℕ) → length ns ≡ 0 → {old last : List ℕ} {used r : ℕ} → Puts (10 ∷ []) old used last r → Puts (line_text ns) old used last r
+pub line_none : (ns : List ℕ) → length ns ≡ 0 → {old last : Page} → Puts (10 ∷ []) old last → Puts (line_text ns) old last
 unfolding line_text
 line_none [] e p = p
 line_none (n ∷ ns) e p = absurd (omega arith)
 
-pub line_some : (ns : List ℕ) → (length ns ≡ 0 → ⊥) → {old mid late last : List ℕ} {used m k r : ℕ} → Puts (decimal (get_or ns 0 0)) old used mid m
-    → Puts (spaced (take (length ns - 1) (drop 1 ns))) mid m late k → Puts (10 ∷ []) late k last r → Puts (line_text ns) old used last r
+pub line_some : (ns : List ℕ) → (length ns ≡ 0 → ⊥) → {old mid late last : Page} → Puts (decimal (get_or ns 0 0)) old mid
+    → Puts (spaced (take (length ns - 1) (drop 1 ns))) mid late → Puts (10 ∷ []) late last → Puts (line_text ns) old last
 line_some [] f p q s = absurd (f refl)
-line_some (n ∷ ns) f {mid = mid} {late = late} {m = m} {k = k} p q s =
+line_some (n ∷ ns) f {mid = mid} {late = late} p q s =
     let all : take (length (n ∷ ns) - 1) ns ≡ ns = take_all (length (n ∷ ns) - 1) ns (omega arith) in
-    rw (line_spaced n ns) (p then subst (λ (xs : List ℕ). Puts (spaced xs) mid m late k) all q then s)
+    rw (line_spaced n ns) (p then subst (λ (xs : List ℕ). Puts (spaced xs) mid late) all q then s)

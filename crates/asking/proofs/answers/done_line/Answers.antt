@@ -7,4 +7,4 @@ use Rattle.asking.proofs.answers.done_line.Goals as goal
 pub returns : goal.returns
 unfolding items_text
 returns c =
-    c.put_number-counted.ensures then c.put_text-named.ensures then c.listed_line.ensures
+    c.put_number.ensures then c.put_text.ensures then c.listed_line.ensures

@@ -7,6 +7,6 @@ pub returns-then-changed_from : goal.returns-then-changed_from
 returns-then-changed_from c =
     search end_changed
 
-pub returns : goal.returns
-returns c =
+pub returns-else-changed_from : goal.returns-else-changed_from
+returns-else-changed_from c =
     search end_kept

@@ -7,5 +7,4 @@ use Rattle.asking.proofs.answers.item_line.Goals as goal
 pub returns : goal.returns
 unfolding item_text
 returns c =
-    c.put_text-named.ensures then c.put_number-said.ensures then c.put_text-parted.ensures then c.put_number-counted.ensures
-    then c.put_text.ensures
+    c.put_text.ensures then c.put_number.ensures then c.put_text-2.ensures then c.put_number-2.ensures then c.put_text-3.ensures

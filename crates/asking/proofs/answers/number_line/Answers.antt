@@ -7,4 +7,4 @@ use Rattle.asking.proofs.answers.number_line.Goals as goal
 pub returns : goal.returns
 unfolding number_line
 returns c =
-    c.put_text-named.ensures then c.put_number-said.ensures then c.put_text.ensures
+    c.put_text.ensures then c.put_number.ensures then c.put_text-2.ensures

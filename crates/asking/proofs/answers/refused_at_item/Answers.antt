@@ -7,4 +7,4 @@ use Rattle.asking.proofs.answers.refused_at_item.Goals as goal
 pub returns : goal.returns
 unfolding refused_item
 returns c =
-    c.refused-said.ensures then c.put_text-named.ensures then c.put_number-placed.ensures then c.end_line.ensures
+    c.refused.ensures then c.put_text.ensures then c.put_number.ensures then c.end_line.ensures

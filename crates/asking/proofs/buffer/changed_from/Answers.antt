@@ -1,9 +1,5 @@
-use Rattle.asking.proofs.Buffers.{look_none, look_more, look_changed, look_all}
+use Rattle.asking.proofs.Buffers.{look_more, look_changed, look_all}
 use Rattle.asking.proofs.buffer.changed_from.Goals as goal
-
-pub loop-i-init : goal.loop-i-init
-loop-i-init c =
-    look_none
 
 pub returns-then-buffer-i : goal.returns-then-buffer-i
 returns-then-buffer-i c =

@@ -1,12 +1,7 @@
 -- `asking::buffer::fill` goes word by word.
 -- Assumes nothing.
-use Prim.Native.Nat.{◌-◌}
-use lib.ListN.{length}
 use Rattle.asking.proofs.Buffers.{Filling}
 use Rattle.asking.proofs.buffer.fill.Given as goal
 
 abbrev pub invariant-loop-i : goal.invariant-loop-i
 invariant-loop-i l = Filling l.initial.buffer l.buffer l.i
-
-abbrev pub decreases-loop-i : goal.decreases-loop-i
-decreases-loop-i l = length l.initial.buffer - l.i

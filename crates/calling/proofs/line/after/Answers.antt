@@ -1,18 +1,13 @@
-use Rattle.calling.proofs.Input.{end_none, end_lf, end_more, end_all}
+-- `calling::line::after` is behind the first LF, or at the end.
+-- Assumes nothing.
+use Rattle.lists.proofs.Fills.{part_old}
+use Rattle.calling.proofs.Input.{end_lf, end_all}
 use Rattle.calling.proofs.line.after.Goals as goal
 
-pub loop-i-init : goal.loop-i-init
-loop-i-init c =
-    end_none c.requires
+pub returns-in-Some : goal.returns-in-Some
+returns-in-Some c =
+    end_lf c.args.text.now c.args.at (rw part_old at c.lf_at.ensures) c.in-Some.is
 
-pub returns-then-text-i-eq-LF : goal.returns-then-text-i-eq-LF
-returns-then-text-i-eq-LF c =
-    end_lf c.loop-i.invariant c.loop-i-test.true c.if-text-i-eq-LF.true
-
-pub loop-i-preserved : goal.loop-i-preserved
-loop-i-preserved c =
-    end_more c.loop-i.invariant c.loop-i-test.true c.if-text-i-eq-LF.false
-
-pub returns : goal.returns
-returns c =
-    end_all c.loop-i.invariant c.loop-i-test.false
+pub returns-in-None : goal.returns-in-None
+returns-in-None c =
+    end_all c.args.text.now c.args.at (rw part_old at c.lf_at.ensures) c.requires c.in-None.is

@@ -1,14 +1,13 @@
 -- `cycles::safety::settle` keeps the marks on safe nodes alone. The measure is the depth left.
 -- Assumes nothing.
-use Prim.Native.Nat.{◌-◌, ◌≤◌}
+use Rattle.grammar.specs.Table.{nodes}
+use Rattle.grammar.specs.Law.{Under}
+use Rattle.grammar.specs.Named.{named}
 use Rattle.cycles.specs.Safe.{SafeMarks}
 use Rattle.cycles.proofs.safety.+settle.Given as goal
 
 abbrev pub decreases-settle : goal.decreases-settle
 decreases-settle l = l.left
 
-abbrev pub invariant-loop-i : goal.invariant-loop-i
-invariant-loop-i l = (l.i ≤ l.count) × SafeMarks l.table l.pool l.plan l.safe
-
-abbrev pub decreases-loop-i : goal.decreases-loop-i
-decreases-loop-i l = l.count - l.i
+abbrev pub invariant-loop-k : goal.invariant-loop-k
+invariant-loop-k l = Under (nodes l.w.table.now) (named l.k-iterator) × SafeMarks l.w.table.now l.w.pool.now l.w.plan.now l.safe

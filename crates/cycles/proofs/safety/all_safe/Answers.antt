@@ -4,14 +4,11 @@ use Rattle.cycles.proofs.safety.all_safe.Goals as goal
 
 pub loop-left-init : goal.loop-left-init
 loop-left-init c =
-    pass_start (blank 256)
+    rw c.count-left.ensures (pass_start (blank 256))
 
 pub all_settled-requires : goal.all_settled-requires
 all_settled-requires c =
-    record {
-      ready = c.requires;
-      safe_marks = c.safe_pass-still.ensures.marked;
-    }
+    c.safe_pass-still.ensures.marked
 
 pub returns-then-left-still : goal.returns-then-left-still
 returns-then-left-still c =
@@ -19,4 +16,4 @@ returns-then-left-still c =
 
 pub returns : goal.returns
 returns c =
-    λ e. search all_safe_lem
+    λ e. all_safe_lem c.args.w.now.passed c.loop-left.invariant c.loop-left-test.false

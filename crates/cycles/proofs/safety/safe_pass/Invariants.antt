@@ -1,11 +1,9 @@
 -- `cycles::safety::safe_pass` marks the nodes whose steps lead to safe nodes, rising.
 -- Assumes nothing.
-use Prim.Native.Nat.{◌-◌, ◌≤◌}
+use Prim.Native.Nat.{◌≤◌}
+use Rattle.grammar.specs.Table.{nodes}
 use Rattle.cycles.specs.Safe.{SafePass}
 use Rattle.cycles.proofs.safety.safe_pass.Given as goal
 
 abbrev pub invariant-loop-n : goal.invariant-loop-n
-invariant-loop-n l = (l.n ≤ l.count) × (l.left ≤ l.n) × SafePass l.table l.pool l.plan l.safe l.n l.left
-
-abbrev pub decreases-loop-n : goal.decreases-loop-n
-decreases-loop-n l = l.count - l.n
+invariant-loop-n l = (l.n ≤ nodes l.w.table.now) × (l.left ≤ l.n) × SafePass l.w.table.now l.w.pool.now l.w.plan.now l.safe l.n l.left

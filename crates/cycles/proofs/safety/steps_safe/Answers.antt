@@ -1,35 +1,26 @@
--- `cycles::safety::steps_safe` tests the nodes that a node names.
--- Assumes nothing.
-use Rattle.cycles.proofs.Steps.{one_few, two_few, run_few, asks_first, asks_second, asks_others}
+use mathlib.Core.Path.{ap, ◌∙◌}
+use native.Mathlib.Omega.{arith}
+use Rattle.grammar.specs.Named.{named}
+use Rattle.cycles.proofs.Steps.{few_nodes, named_in, first_in, asking_more, asking_no, asking_end}
 use Rattle.cycles.proofs.safety.steps_safe.Goals as goal
 
-pub one_safe-requires : goal.one_safe-requires
-one_safe-requires c =
-    one_few c.requires.ready _ _ c.steps_of-s.ensures
+pub loop-k-init : goal.loop-k-init
+loop-k-init c =
+    let e = ap named c.into_iter-k-iterator.ensures.into_iter_gives ∙ c.steps_of-steps.ensures in
+    record { inside = named_in c.args.w.now.passed _ _ e; same = rw e }
 
-pub one_safe-requires-then-one_safe : goal.one_safe-requires-then-one_safe
-one_safe-requires-then-one_safe c =
-    two_few c.requires.ready _ _ c.steps_of-s.ensures
+pub bounds-safe-k : goal.bounds-safe-k
+bounds-safe-k c =
+    omega (arith, first_in c.loop-k.invariant.inside c.in-Some.ensures.steps, few_nodes c.args.w.now.passed)
 
-pub run_safe-requires : goal.run_safe-requires
-run_safe-requires c =
-    let s = c.steps_of-s.ensures in record {
-      count_in_bounds = s.inside;
-      by_index = run_few c.requires.ready _ _ s;
-    }
+pub loop-k-preserved : goal.loop-k-preserved
+loop-k-preserved c =
+    asking_more c.loop-k.invariant c.in-Some.ensures.steps c.if-not-safe-k.false
 
-pub returns-then-one_safe-2 : goal.returns-then-one_safe-2
-returns-then-one_safe-2 c =
-    asks_others c.requires.ready _ _
-    c.steps_of-s.ensures _ c.one_safe.ensures
-    c.if-one_safe.true c.one_safe-then-one_safe.ensures c.if-one_safe-2.true c.run_safe.ensures
+pub returns-then-not-safe-k : goal.returns-then-not-safe-k
+returns-then-not-safe-k c =
+    asking_no c.loop-k.invariant c.in-Some.ensures.steps c.if-not-safe-k.true
 
-pub returns-else-one_safe-2 : goal.returns-else-one_safe-2
-returns-else-one_safe-2 c =
-    asks_second c.requires.ready _ _ c.steps_of-s.ensures _
-    c.one_safe.ensures c.if-one_safe.true c.one_safe-then-one_safe.ensures c.if-one_safe-2.false
-
-pub returns-else-one_safe : goal.returns-else-one_safe
-returns-else-one_safe c =
-    asks_first c.requires.ready _ _ c.steps_of-s.ensures _ c.one_safe.ensures
-    c.if-one_safe.false
+pub returns : goal.returns
+returns c =
+    asking_end c.loop-k.invariant c.in-None.ensures.steps.0

@@ -1,3 +1,5 @@
+use native.Mathlib.Omega.{arith}
+use Rattle.grammar.proofs.PlanSizes.{ready_of}
 use Rattle.cycles.proofs.Table.{passed_none, passed_kind, passed_cycle, lowest_found, lowest_none}
 use Rattle.cycles.proofs.search.lowest_asked.Goals as goal
 use Rattle.cycles.proofs.search.lowest_asked.Goals.{then-asked+else-comes_back, else-asked}
@@ -8,21 +10,18 @@ loop-n-init c =
 
 pub returns-then-comes_back : goal.returns-then-comes_back
 returns-then-comes_back c =
-    lowest_found _ c.requires _
-    c.asked.ensures c.loop-n.invariant
-    c.loop-n-test.true c.if-asked.true c.comes_back.ensures c.if-comes_back.true
+    lowest_found _ (ready_of c.args.w.now.passed) _ c.asked.ensures c.loop-n.invariant (omega arith) c.if-asked.true c.comes_back.ensures c.if-comes_back.true
 
 pub loop-n-preserved : goal.loop-n-preserved
 loop-n-preserved c =
-    let r = c.requires in
+    let r = ready_of c.args.w.now.passed in
     let i = c.loop-n.invariant in
-    let l = c.loop-n-test.true in
     let a = c.asked.ensures in
     elim c.if-asked.branch [
-      | then-asked+else-comes_back w ↦ passed_cycle _ r _ a i l w.comes_back.ensures w.if-comes_back.false
-      | else-asked w ↦ passed_kind _ r _ a i l w.if-asked.false
+      | then-asked+else-comes_back w ↦ passed_cycle _ r _ a i (omega arith) w.comes_back.ensures w.if-comes_back.false
+      | else-asked w ↦ passed_kind _ r _ a i (omega arith) w.if-asked.false
     ]
 
 pub returns : goal.returns
 returns c =
-    search lowest_none
+    lowest_none (ready_of c.args.w.now.passed) c.loop-n.invariant (omega arith)

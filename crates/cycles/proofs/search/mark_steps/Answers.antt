@@ -1,26 +1,22 @@
--- `cycles::search::mark_steps` marks the nodes that a node names.
--- Assumes nothing.
-use Rattle.cycles.proofs.Steps.{one_few, two_few, run_few, marks_named}
+use mathlib.Core.Path.{ap, ◌∙◌}
+use native.Mathlib.Omega.{arith}
+use Rattle.grammar.specs.Named.{named}
+use Rattle.cycles.proofs.Steps.{few_nodes, named_in, first_in, marking_more, marking_end}
 use Rattle.cycles.proofs.search.mark_steps.Goals as goal
 
-pub mark_one-requires : goal.mark_one-requires
-mark_one-requires c =
-    one_few c.requires.ready _ _ c.steps_of-s.ensures
+pub loop-k-init : goal.loop-k-init
+loop-k-init c =
+    let e = ap named c.into_iter-k-iterator.ensures.into_iter_gives ∙ c.steps_of-k-items.ensures in
+    record { inside = named_in c.args.w.now.passed _ _ e; marks = rw e }
 
-pub mark_one-requires-2 : goal.mark_one-requires-2
-mark_one-requires-2 c =
-    two_few c.requires.ready _ _ c.steps_of-s.ensures
+pub bounds-seen-k : goal.bounds-seen-k
+bounds-seen-k c =
+    omega (arith, first_in c.loop-k.invariant.inside c.in-Some.ensures.steps, few_nodes c.args.w.now.passed)
 
-pub mark_run-requires : goal.mark_run-requires
-mark_run-requires c =
-    let s = c.steps_of-s.ensures in record {
-      count_in_bounds = s.inside;
-      by_index = run_few
-          c.requires.ready _ _ s;
-    }
+pub loop-k-preserved : goal.loop-k-preserved
+loop-k-preserved c =
+    marking_more c.loop-k.invariant c.in-Some.ensures.steps
 
 pub returns : goal.returns
 returns c =
-    marks_named c.requires.ready _ _
-    c.steps_of-s.ensures _ c.mark_one.ensures
-    c.mark_one-2.ensures c.mark_run.ensures
+    marking_end c.loop-k.invariant c.in-None.ensures.steps.0

@@ -39,4 +39,7 @@ overflow_add-m-else-m-u c =
 pub returns : goal.returns
 returns c =
     let e = of_some _ _ c.in_ok-m.ensures in
-    c.cap-2.ensures ∙ ap capped (elim c.if-m-u.branch [ then-m-u w ↦ w.cap-is ∙ inside _ _ _ e w.if-m-u.true | else-m-u w ↦ w.cap-is ∙ past _ _ _ e w.if-m-u.false ])
+    c.cap-2.ensures ∙ ap capped (elim c.if-m-u.branch [
+      | then-m-u w ↦ w.cap-is ∙ inside _ _ _ e w.if-m-u.true
+      | else-m-u w ↦ w.cap-is ∙ past _ _ _ e w.if-m-u.false
+    ])

@@ -16,7 +16,10 @@ most n r w h = by (ltb r (2 ^ 32)) refl
   where
     by : (q : Bool) → ltb r (2 ^ 32) ≡ q → Above n (min r (2 ^ 32 - 1))
     by true e = let l = ltb-true r (2 ^ 32) e in let m : min r (2 ^ 32 - 1) ≡ r = omega arith in rw m (record { above = h; word = l })
-    by false e = let l = ltb-false r (2 ^ 32) e in let m : min r (2 ^ 32 - 1) ≡ 2 ^ 32 - 1 = omega arith in rw m (record { above = omega arith; word = omega arith })
+    by false e =
+        let l = ltb-false r (2 ^ 32) e in
+        let m : min r (2 ^ 32 - 1) ≡ 2 ^ 32 - 1 = omega arith in
+        rw m (record { above = omega arith; word = omega arith })
 
 pub returns : goal.returns
 returns c =

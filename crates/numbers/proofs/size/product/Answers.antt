@@ -18,12 +18,16 @@ past n h = rw (lt-leb n (2 ^ 62) h)
 pub returns-then-s-ge-ENDLESS : goal.returns-then-s-ge-ENDLESS
 unfolding times size_of measured
 returns-then-s-ge-ENDLESS c =
-    elim c.then-s-ge-ENDLESS.branch [ then-s-ge-ENDLESS-via-then-s-ge-ENDLESS w ↦ search tests | then-s-ge-ENDLESS-via-else-s-ge-ENDLESS+then-t-ge-ENDLESS w ↦ search tests ]
+    elim c.then-s-ge-ENDLESS.branch [
+      | then-s-ge-ENDLESS-via-then-s-ge-ENDLESS w ↦ search tests
+      | then-s-ge-ENDLESS-via-else-s-ge-ENDLESS+then-t-ge-ENDLESS w ↦ search tests
+    ]
 
 pub returns-in_err-checked_mul : goal.returns-in_err-checked_mul
 unfolding times
 returns-in_err-checked_mul c =
-    rw (sized_finite c.args.s c.if-s-ge-ENDLESS.false, sized_finite c.args.t c.if-t-ge-ENDLESS.false, c.from_residual.ensures) (past _ (omega (arith, c.in_err-checked_mul.ensures)))
+    rw (sized_finite c.args.s c.if-s-ge-ENDLESS.false, sized_finite c.args.t c.if-t-ge-ENDLESS.false, c.from_residual.ensures)
+    (past _ (omega (arith, c.in_err-checked_mul.ensures)))
 
 pub returns : goal.returns
 unfolding times

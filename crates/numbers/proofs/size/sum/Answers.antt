@@ -9,7 +9,10 @@ use Rattle.numbers.proofs.size.sum.Goals.{then-s-ge-ENDLESS-via-then-s-ge-ENDLES
 pub returns-then-s-ge-ENDLESS : goal.returns-then-s-ge-ENDLESS
 unfolding plus size_of measured
 returns-then-s-ge-ENDLESS c =
-    elim c.then-s-ge-ENDLESS.branch [ then-s-ge-ENDLESS-via-then-s-ge-ENDLESS w ↦ search tests | then-s-ge-ENDLESS-via-else-s-ge-ENDLESS+then-t-ge-ENDLESS w ↦ search tests ]
+    elim c.then-s-ge-ENDLESS.branch [
+      | then-s-ge-ENDLESS-via-then-s-ge-ENDLESS w ↦ search tests
+      | then-s-ge-ENDLESS-via-else-s-ge-ENDLESS+then-t-ge-ENDLESS w ↦ search tests
+    ]
 
 pub returns : goal.returns
 unfolding plus

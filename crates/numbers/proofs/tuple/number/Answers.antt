@@ -24,7 +24,8 @@ turned parts i x h =
 here : (c : In-Some) → (length c.loop-x.yielded < length c.args.parts.now)
     × (c.in-Some.x.now ≡ get_or c.args.parts.now (length c.args.parts.now - 1 - length c.loop-x.yielded) 0)
 here c =
-    turned _ _ _ (YieldsList-turn (YieldsList-from_rev_slice c.args.parts.now cc) c.loop-x.yielded _ c.loop-x.yielded_by _ _ c.in-Some.x c.in-Some.is c.next.ensures.steps)
+    let road = YieldsList-from_rev_slice c.args.parts.now cc in
+    turned _ _ _ (YieldsList-turn road c.loop-x.yielded _ c.loop-x.yielded_by _ _ c.in-Some.x c.in-Some.is c.next.ensures.steps)
 
 layer : (c : In-Some) → Layer c.args.r c.args.parts.now
 layer c = record { fits = c.requires.0; is_largest = c.requires.1 }
@@ -80,7 +81,8 @@ loop-x-preserved c =
 
 all : (c : In-None) → length c.args.parts.now ≤ length c.loop-x.yielded
 all c =
-    omega (arith, length-reverse c.args.parts.now, (YieldsList-end (YieldsList-from_rev_slice c.args.parts.now cc) c.loop-x.yielded _ c.loop-x.yielded_by _ _ c.in-None.is c.next.ensures.steps).1)
+    let e = YieldsList-end (YieldsList-from_rev_slice c.args.parts.now cc) c.loop-x.yielded _ c.loop-x.yielded_by _ _ c.in-None.is c.next.ensures.steps in
+    omega (arith, length-reverse c.args.parts.now, e.1)
 
 pub overflow_sub-result : goal.overflow_sub-result
 overflow_sub-result c =

@@ -9,20 +9,15 @@ loop-at-init c =
 
 pub loop-at-smaller : goal.loop-at-smaller
 loop-at-smaller c =
-    omega (
-      arith,
-      one_within _ _ (sym c.one_at.ensures ∙ c.in-Number.is),
-    )
+    omega (arith, one_within _ _ (sym c.one_at.ensures ∙ c.in-Some.is))
 
 pub loop-at-preserved : goal.loop-at-preserved
 loop-at-preserved c =
-    pass_more c.loop-at.invariant c.loop-at-test.true
-    c.one_at.ensures c.in-Number.is
+    pass_more c.loop-at.invariant c.loop-at-test.true c.one_at.ensures c.in-Some.is
 
-pub returns-in-Not : goal.returns-in-Not
-returns-in-Not c =
-    pass_not c.loop-at.invariant c.loop-at-test.true c.one_at.ensures
-    c.in-Not.is
+pub returns-in_default : goal.returns-in_default
+returns-in_default c =
+    pass_not c.loop-at.invariant c.loop-at-test.true c.one_at.ensures c.in_default.is
 
 pub returns : goal.returns
 returns c =

@@ -7,4 +7,4 @@ use Rattle.printing.proofs.print.put_case.Goals as goal
 pub returns : goal.returns
 unfolding case_text
 returns c =
-    c.put_text-named.ensures then c.put_number-numbered.ensures then c.put_text-parted.ensures then c.put_line.ensures
+    c.put_text.ensures then c.put_number.ensures then c.put_text-2.ensures then c.put_line.ensures

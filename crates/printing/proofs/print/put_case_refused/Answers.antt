@@ -7,5 +7,5 @@ use Rattle.printing.proofs.print.put_case_refused.Goals as goal
 pub returns : goal.returns
 unfolding case_refused_text
 returns c =
-    c.put_text-named.ensures then c.put_number-numbered.ensures then c.put_text-said.ensures then rw c.number_of.ensures at
-    c.put_number-placed.ensures then c.put_text.ensures
+    c.put_text.ensures then c.put_number.ensures then c.put_text-2.ensures then rw c.number_of.ensures at c.put_number-2.ensures
+    then c.put_text-3.ensures

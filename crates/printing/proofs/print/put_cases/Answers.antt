@@ -4,18 +4,18 @@ use Rattle.printing.proofs.print.Cases.{go_none, go_more, go_all}
 use Rattle.printing.proofs.input.Numbers.{one_within}
 use Rattle.printing.proofs.print.put_cases.Goals as goal
 
-pub loop-n-init : goal.loop-n-init
-loop-n-init c =
+pub loop-one-init : goal.loop-one-init
+loop-one-init c =
     go_none
 
-pub loop-n-smaller : goal.loop-n-smaller
-loop-n-smaller c =
-    omega (arith, one_within _ _ (sym c.one_at.ensures ∙ c.in-Number.is))
+pub loop-one-smaller : goal.loop-one-smaller
+loop-one-smaller c =
+    omega (arith, one_within _ _ (sym c.one_at.ensures ∙ c.in-Some.is))
 
-pub loop-n-preserved : goal.loop-n-preserved
-loop-n-preserved c =
-    search go_more
+pub loop-one-preserved : goal.loop-one-preserved
+loop-one-preserved c =
+    go_more c.loop-one.invariant c.one_at.ensures c.in-Some.is c.put_answer.ensures
 
-pub returns-in-Not : goal.returns-in-Not
-returns-in-Not c =
-    search go_all
+pub returns : goal.returns
+returns c =
+    go_all c.loop-one.invariant c.one_at.ensures c.in_default.is

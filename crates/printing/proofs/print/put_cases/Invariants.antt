@@ -5,8 +5,8 @@ use lib.ListN.{length}
 use Rattle.printing.proofs.print.Cases.{Going}
 use Rattle.printing.proofs.print.put_cases.Given as goal
 
-abbrev pub invariant-loop-n : goal.invariant-loop-n
-invariant-loop-n l = Going l.text l.from l.table l.pool l.first l.initial.page l.page l.used l.at
+abbrev pub invariant-loop-one : goal.invariant-loop-one
+invariant-loop-one l = Going l.text l.from l.asked.table.now l.asked.pool.now l.asked.start l.initial.page l.page l.at
 
-abbrev pub decreases-loop-n : goal.decreases-loop-n
-decreases-loop-n l = length l.text - l.at
+abbrev pub decreases-loop-one : goal.decreases-loop-one
+decreases-loop-one l = length l.text - l.at

@@ -1,0 +1,2 @@
+-- What an input asks for.
+mod Parts

@@ -1,9 +1,0 @@
--- `texts::said::unreadable` puts its text.
--- Assumes nothing.
-use Rattle.texts.specs.Said.{unreadable_text}
-use Rattle.texts.proofs.said.unreadable.Goals as goal
-
-pub returns : goal.returns
-unfolding unreadable_text
-returns c =
-    c.put_text.ensures
