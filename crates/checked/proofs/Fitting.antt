@@ -10,7 +10,7 @@
 use mathlib.Core.Path.{◌≡◌, refl, sym, subst, ap, ◌∙◌}
 use mathlib.Core.Bool.{Bool, true, false, and-true, false≢true}
 use mathlib.Core.List.{List, [], ◌∷◌, ◌++◌}
-use Prim.Native.Nat.{ℕ, zero, suc, ◌+◌, ◌*◌, ◌^◌, ◌≤◌, ◌<◌}
+use Prim.Native.Nat.{ℕ, zero, suc, ◌^◌, ◌≤◌, ◌<◌}
 use native.Mathlib.Nat.{not-suc-le-zero, le_of_suc-le-suc}
 use native.Mathlib.Omega.{arith}
 use lib.Dec.{ltb}
@@ -18,6 +18,8 @@ use lib.ListN.{length, get_or, take, drop, length-take, length-drop, length-appe
 use borrow.Author.Tests.{lt-ltb}
 use Rattle.numbers.specs.Size.{Size, size_of, Below}
 use Rattle.numbers.proofs.size.SizeWords.{by_size}
+use Rattle.grammar.specs.Plan.{size_word}
+use Rattle.grammar.specs.declared.entry.Entry.{Entry}
 use Rattle.grammar.specs.declared.refusal.Refusal.{Refusal}
 use Rattle.grammar.specs.declared.refusal.Refusal.TheVariants.{NoSuchNumber}
 use Rattle.grammar.specs.Rule.{Rule}
@@ -39,7 +41,7 @@ module _ (w n : ℕ) where
   asked_small h = by_size (λ s. ltb n w ≡ asked s n) w (λ f. rw (lt-ltb n (2 ^ 62) h) (sym (and-true (ltb n w))))
       (λ f. rw (lt-ltb n (2 ^ 62) h) (lt-ltb n w (omega arith)))
 
-module _ {plan p : List ℕ} {i : ℕ} (h : Reading plan p i) (n : ℕ) {b : Bool} (a : b ≡ asked (size_of (get_or plan (4 * i + 3) 0)) n) where
+module _ {plan : List Entry} {p : List ℕ} {i : ℕ} (h : Reading plan p i) (n : ℕ) {b : Bool} (a : b ≡ asked (size_of (size_word plan i)) n) where
   -- the size that the plan has is the rule's
   asked_here : b ≡ asked (rule_in plan p i).size n
   asked_here = a ∙ ap (λ (s : Size). asked s n) (h.walks.good.sized i h.node)
@@ -76,7 +78,7 @@ over_part (c ∷ cs) old zero l = absurd (not-suc-le-zero l)
 over_part (c ∷ cs) [] (suc k) l = refl
 over_part (c ∷ cs) (x ∷ old) (suc k) l = ap (λ (xs : List ℕ). c ∷ xs) (over_part cs old k (le_of_suc-le-suc l))
 
-module _ {plan p : List ℕ} {i : ℕ} (h : Reading plan p i) (n : ℕ) {b : Bool} (a : b ≡ asked (size_of (get_or plan (4 * i + 3) 0)) n) (old : List ℕ) where
+module _ {plan : List Entry} {p : List ℕ} {i : ℕ} (h : Reading plan p i) (n : ℕ) {b : Bool} (a : b ≡ asked (size_of (size_word plan i)) n) (old : List ℕ) where
   pub fits_12 : b ≡ false → FitOver (rule_in plan p) i n old old (Err NoSuchNumber)
   fits_12 e = record {
     is = decided_12 h n a (length old) e;
@@ -116,7 +118,7 @@ pub settled_cells : (g : ℕ → Rule) (i n room : ℕ) {f : Fit} → f ≡ fitt
 settled_cells g i n room e q = λ r u. let z : ◌≡◌ {A = ℕ} 0 1 = cc in absurd (omega arith)
 
 -- where every case fits, the only refusal is 12
-pub settled_sure : {plan p : List ℕ} {i : ℕ} (h : Reading plan p i) (n : ℕ) (old : List ℕ) {room : ℕ} → room ≡ room_for (length old) → Sure plan i room
+pub settled_sure : {plan : List Entry} {p : List ℕ} {i : ℕ} (h : Reading plan p i) (n : ℕ) (old : List ℕ) {room : ℕ} → room ≡ room_for (length old) → Sure plan i room
     → Settled (rule_in plan p) i n (length old)
 settled_sure {plan} {p} {i} h n old m s r q = by (asked (rule_in plan p i).size n) refl
   where

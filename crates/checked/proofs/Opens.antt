@@ -18,6 +18,7 @@ use lib.ListN.{length}
 use borrow.Author.Tests.{eq-eqb, eqb-true, leb-true, le-leb, lt-ltb, le-ltb, ltb-true}
 use Rattle.numbers.specs.Size.{Size}
 use Rattle.numbers.proofs.Tests.{pick_by, and_left, and_right}
+use Rattle.grammar.specs.declared.entry.Entry.{Entry}
 use Rattle.grammar.specs.Table.{nodes, lengths}
 use Rattle.grammar.specs.Sizes.{size_at, scan, passed, sizes}
 use Rattle.grammar.specs.Checked.{Checked}
@@ -40,7 +41,7 @@ use Rattle.checked.proofs.Walking.{same_rules, stands_at}
 pub refused_not : {e : Refused} → Err e ≡ accepted → ⊥
 refused_not e = let x : ◌≡◌ {A = ℕ} 0 1 = cc in omega arith
 
-pub prepared_length : (t p plan : List ℕ) → false ≡ lengths t p → Prepared t p plan (refused Length 0)
+pub prepared_length : (t p : List ℕ) (plan : List Entry) → false ≡ lengths t p → Prepared t p plan (refused Length 0)
 unfolding verdict check_says
 prepared_length t p plan e = record { says = rw (← e); ready = λ a. absurd (refused_not a) }
 
@@ -60,10 +61,10 @@ lengths_are t p e =
     )
 
 -- what was found by the weighing, at the arm's constructor
-told : {t p plan : List ℕ} {v w : Verdict} → AllWeighed t p plan v → v ≡ w → WeighedBy t p plan w
+told : {t p : List ℕ} {plan : List Entry} {v w : Verdict} → AllWeighed t p plan v → v ≡ w → WeighedBy t p plan w
 told {t} {p} {plan} a e = rw e at a.is
 
-module _ {t p plan : List ℕ} {v : Verdict} (a : AllWeighed t p plan v)
+module _ {t p : List ℕ} {plan : List Entry} {v : Verdict} (a : AllWeighed t p plan v)
     (l : (length t ≡ 3 * nodes t) × (1 ≤ nodes t) × (nodes t ≤ 256) × (length p ≤ 4096)) where
   long : lengths t p ≡ true
   long = rw (eq-eqb (length t) (3 * nodes t) l.0, le-leb 1 (nodes t) l.1, le-leb (nodes t) 256 l.2, le-leb (length p) 4096 l.3)
@@ -85,7 +86,7 @@ module _ {t p plan : List ℕ} {v : Verdict} (a : AllWeighed t p plan v)
     pub prepared_ready : Ready t p plan
     prepared_ready = record { checked = rw (plan_sizes plans) checked; long = plans.long }
 
-    pub prepared_cycles : {old : List ℕ} → Blank t old → length plan ≡ length old → {w : Verdict} → w ≡ cycles t p (size_in plan) → Prepared t p plan w
+    pub prepared_cycles : {old : List Entry} → Blank t old → length plan ≡ length old → {w : Verdict} → w ≡ cycles t p (size_in plan) → Prepared t p plan w
     unfolding verdict settled check_says
     prepared_cycles b k f = record {
       says = rw (long, passes) (ap answer (f ∙ ap (λ (z : ℕ → Size). cycles t p z) (plan_sizes plans)));
@@ -93,7 +94,7 @@ module _ {t p plan : List ℕ} {v : Verdict} (a : AllWeighed t p plan v)
     }
 
 -- ---- then the start
-module _ {t p plan : List ℕ} {v : Verdict} (h : Prepared t p plan v) (i : ℕ) where
+module _ {t p : List ℕ} {plan : List Entry} {v : Verdict} (h : Prepared t p plan v) (i : ℕ) where
   is : v ≡ verdict t p
   unfolding check_says
   is = answer_one v (verdict t p) h.says

@@ -16,6 +16,7 @@ use lib.ListN.{length, take, drop, length-append, length-take, length-drop, leng
 use lib.Seq.{drop-cons, drop-drop, take_all, take-length}
 use borrow.Author.Tests.{lt-ltb, le-ltb}
 use Rattle.lists.proofs.Order.{le_or_lt}
+use Rattle.grammar.specs.declared.entry.Entry.{Entry}
 use Rattle.grammar.specs.declared.refusal.Refusal.{Refusal}
 use Rattle.grammar.specs.declared.refusal.Refusal.TheVariants.{NotACase, NumberTooLarge}
 use Rattle.grammar.specs.Rule.{Rule}
@@ -48,7 +49,7 @@ module _ (cells : List ℕ) (at : ℕ) {room : ℕ} (f : room ≡ room_for (leng
   row_most : row ≡ take most (drop at cells)
   row_most = take_few (drop at cells) {k = at + room - at} (omega (arith, f, length-drop at cells))
 
-  module _ {plan p : List ℕ} {i : ℕ} (h : Reading plan p i) (here : at ≤ length cells) {used word : ℕ}
+  module _ {plan : List Entry} {p : List ℕ} {i : ℕ} (h : Reading plan p i) (here : at ≤ length cells) {used word : ℕ}
       (t : Taken (2 ^ 62 + 1) (run (rule_in plan p) depth 0 i) row 0 used word) where
     abbrev walked : Read
     walked = run (rule_in plan p) depth 0 i most (drop at cells)

@@ -10,6 +10,7 @@ use native.Mathlib.Omega.{arith}
 use lib.ListN.{get_or, get_or-eq_default}
 use Rattle.numbers.specs.Size.{Size, NotZero}
 use Rattle.lists.proofs.Order.{le_or_lt}
+use Rattle.grammar.specs.declared.entry.Entry.{Entry}
 use Rattle.grammar.specs.Table.{kind_of, a_of, b_of, nodes}
 use Rattle.grammar.specs.Kind.{Node, before}
 use Rattle.grammar.specs.Law.{Holds, Good}
@@ -22,7 +23,7 @@ use Rattle.planning.proofs.Plans.{plan_sizes}
 use Rattle.walk.specs.Plan.{Walkable, Reading}
 use Rattle.checked.specs.Prepared.{Planning}
 
-module _ {t p plan : List ℕ} (h : Planning t p plan) where
+module _ {t p : List ℕ} {plan : List Entry} (h : Planning t p plan) where
   -- a word of the plan past the table's nodes is 0, and so is one of the table
   beyond : (k j : ℕ) → nodes t ≤ k → 3 * k ≤ j → get_or t j 0 ≡ 0
   beyond k j l m = get_or-eq_default t 0 (omega (arith, h.checked.whole))
@@ -67,5 +68,5 @@ module _ {t p plan : List ℕ} (h : Planning t p plan) where
   walkable = record { count = nodes t; long = h.plans.long; good = good; holds = holds; some = some; short = h.short; slight = h.slight }
 
 -- a start that is in the table may be walked from
-abbrev pub stands_at : {t p plan : List ℕ} → Planning t p plan → {i : ℕ} → i < nodes t → Reading plan p i
+abbrev pub stands_at : {t p : List ℕ} {plan : List Entry} → Planning t p plan → {i : ℕ} → i < nodes t → Reading plan p i
 stands_at h l = record { walks = walkable h; node = l }

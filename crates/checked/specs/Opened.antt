@@ -8,6 +8,7 @@
 use Rattle.std.specs.Prelude.{◌≡◌, List, ℕ, Result, Ok, Err}
 use Rattle.std.specs.Borrow.{Bor, MutBor}
 use Rattle.grammar.specs.Sizes.{rules_of}
+use Rattle.grammar.specs.declared.entry.Entry.{Entry}
 use Rattle.grammar.specs.Plan.{rule_in}
 use Rattle.grammar.specs.Refusals.{accepted}
 use Rattle.grammar.specs.declared.refusal.Refused.{Refused}
@@ -17,7 +18,7 @@ use Rattle.checked.specs.Opening.{opening}
 -- a start in a checked table, as the walks see it
 pub record Place : Type 0 where
   pub pool : List ℕ
-  pub plan : List ℕ
+  pub plan : List Entry
   pub start : ℕ
 
 abbrev pub rules : Place → ℕ → Rule
