@@ -18,13 +18,14 @@ use lib.Seq.{take-suc, take_all}
 use borrow.Author.Tests.{eqb-true, eqb-false, ltb-true, lt-ltb, le-leb, lt-leb, leb-false}
 use Rattle.numbers.specs.Size.{Size, finite, endless, plus, measured}
 use Rattle.numbers.specs.Pick.{pick}
+use Rattle.std.specs.Option.{ok_or}
 use Rattle.std.specs.Prelude.{Option, Some, None}
 use Rattle.numbers.proofs.size.SizeWords.{sized_finite, sized_endless}
 use Rattle.grammar.specs.Checks.{is_endless, all_lower, all_endless, all_finite, fits, total, row, asks}
 use Rattle.lists.specs.Lists.{every}
 use Rattle.grammar.specs.Kind.{before}
 use Rattle.grammar.specs.kinds.Dep.{seconds_row}
-use Rattle.grammar.specs.Plan.{size_in, size_word, coded, weighed_of}
+use Rattle.grammar.specs.Plan.{size_in, size_word, coded}
 use Rattle.grammar.specs.declared.refusal.Refusal.TheVariants.{Reference, UnsuitedPart, TooLarge}
 use Rattle.grammar.specs.declared.refusal.Refusal.{Refusal}
 use Rattle.std.specs.Prelude.{Result, Ok, Err}
@@ -32,18 +33,18 @@ use Rattle.numbers.proofs.Tests.{and_left}
 use Rattle.lists.proofs.Runs.{every_at}
 
 -- a size that is measured, and the last check of a row
-pub measured_row : (s : Size) → weighed_of (measured s) ≡ coded (row (asks (fits s) TooLarge ∷ []) s)
-unfolding weighed_of measured coded row
+pub measured_row : (s : Size) → ok_or (measured s) TooLarge ≡ coded (row (asks (fits s) TooLarge ∷ []) s)
+unfolding measured coded row
 measured_row (finite s) = by (leb s (2 ^ 62))
   where
-    by : (q : Bool) → weighed_of (pick q (Some s) None) ≡ coded (row (asks q TooLarge ∷ []) (finite s))
+    by : (q : Bool) → ok_or (pick q (Some s) None) TooLarge ≡ coded (row (asks q TooLarge ∷ []) (finite s))
     by true = refl
     by false = refl
 measured_row endless = refl
 
 -- the row of or and of cons, whose parts are lower: f is their sum or their product
 pub pair_row : (f : Size → Size → Size) (z : ℕ → Size) (n a b : ℕ) {m : Option ℕ} {w : Result ℕ Refusal} → ltb a n ≡ true → ltb b n ≡ true
-    → m ≡ measured (f (z a) (z b)) → w ≡ weighed_of m
+    → m ≡ measured (f (z a) (z b)) → w ≡ ok_or m TooLarge
     → let s = f (before z n a) (before z n b) in w ≡ coded (row (asks (ltb a n && ltb b n) Reference ∷ asks (fits s) TooLarge ∷ []) s)
 unfolding row
 pair_row f z n a b l k m w = rw (w, m, l, k) (measured_row (f (z a) (z b)))
@@ -143,7 +144,7 @@ endless_total z (c ∷ cs) e f = by (z c) (and_left (is_endless (z c)) (all_endl
     by endless g = refl
 
 module _ (n : ℕ) {z : ℕ → Size} {cs : List ℕ} {f s : ℕ} (low : all_lower n cs ≡ true) (t : Tally z cs f s) where
-  tally_all : f ≡ length cs → weighed_of (measured (finite s)) ≡ coded (seconds_row n z cs)
+  tally_all : f ≡ length cs → ok_or (measured (finite s)) TooLarge ≡ coded (seconds_row n z cs)
   unfolding row
   tally_all e = rw (← (t.all e).1, low, (t.all e).0) (measured_row (total z cs))
 
@@ -199,11 +200,11 @@ module _ {plan : List Entry} {n : ℕ} {ws : List ℕ} {f s i : ℕ} (r : Passin
     whole = rw (take_all i ws l) at r.is
 
     pub end_sum : f ≡ length ws → leb s (2 ^ 62) ≡ true → Ok s ≡ coded (seconds_row n (before (size_in plan) n) ws)
-    unfolding weighed_of measured
+    unfolding measured
     end_sum e h = rw h at (tally_all n r.lower whole e)
 
     pub end_past : f ≡ length ws → leb s (2 ^ 62) ≡ false → Err TooLarge ≡ coded (seconds_row n (before (size_in plan) n) ws)
-    unfolding weighed_of measured
+    unfolding measured
     end_past e h = rw h at (tally_all n r.lower whole e)
 
     module _ (k : f ≡ length ws → ⊥) where

@@ -3,14 +3,14 @@
 --   size_word, size_in   the word of a node's size, and the size, by the plan
 --   kind_word, a_word, b_word   a node's other words
 --   node_in, rule_in   the node and its rule, by the plan
---   coded, weighed_of   a row's outcome, and a measured size, in the code's words
+--   coded      a row's outcome in the code's words
 --   weighed    what the check of a kind answers of a node: its row but for the spare words
 --   Enters     an entry has a node's words
 --   Planned    the plan holds the nodes below n, with the sizes zs
 --   Ready      the table is checked, with the sizes of the plan
 --   AllWeighed the first fault and its node, or the plan of the whole table
 -- Assumes nothing.
-use Rattle.std.specs.Prelude.{◌≡◌, Option, Some, None, Result, Ok, Err, List, ℕ, ◌≤◌, ◌<◌, length, get_or}
+use Rattle.std.specs.Prelude.{◌≡◌, Result, Ok, Err, List, ℕ, ◌≤◌, ◌<◌, length, get_or}
 use Rattle.numbers.specs.Size.{Size, code_of, size_of}
 use Rattle.grammar.specs.Table.{kind_of, a_of, b_of, nodes}
 use Rattle.grammar.specs.Checks.{Row, fault, sized, row}
@@ -23,7 +23,6 @@ use Rattle.grammar.specs.Kind.{Node, Kind, before}
 use Rattle.grammar.specs.kinds.{kind_in}
 use Rattle.grammar.specs.Checked.{Checked}
 use Rattle.grammar.specs.Sizes.{size_at, scan, passed, faulty, sizes}
-use Rattle.grammar.specs.declared.refusal.Refusal.TheVariants.{TooLarge}
 use Rattle.grammar.specs.Refusals.{Verdict}
 use Rattle.grammar.specs.declared.refusal.Refusal.{Refusal}
 
@@ -56,11 +55,6 @@ rule_in plan p i = (kind_in (kind_word plan i)).rule (a_word plan i) (b_word pla
 unfoldable pub coded : Row → Result ℕ Refusal
 coded (fault r) = Err r
 coded (sized s) = Ok (code_of s)
-
--- a measured size in the same words
-unfoldable pub weighed_of : Option ℕ → Result ℕ Refusal
-weighed_of (Some s) = Ok s
-weighed_of None = Err TooLarge
 
 -- z has the sizes, of which a row looks at those before it
 unfoldable pub weighed : Kind → Node → (ℕ → Size) → Result ℕ Refusal

@@ -7,7 +7,7 @@ ghost use Rattle.grammar.specs.kinds.{used_words, kind_in};
 ghost use Rattle.grammar.specs.KindWords.{word_of_kind};
 ghost use Rattle.grammar.specs.Nodes.{node_with, rule_at};
 ghost use Rattle.grammar.specs.Steps.{steps_of};
-ghost use Rattle.grammar.specs.Plan.{size_in, weighed, weighed_of};
+ghost use Rattle.grammar.specs.Plan.{size_in, weighed};
 ghost use Rattle.grammar.specs.Named.{named};
 
 use super::entry::Entry;
@@ -67,16 +67,6 @@ pub fn asks(holds: bool, refusal: Refusal) -> Result<(), Refusal>
     ensures { MatchResult result (λ _. holds ≡ true) (λ r. (holds ≡ false) × (r ≡ refusal)) }
 {
     if holds { Ok(()) } else { Err(refusal) }
-}
-
-// A size, or (8) "when a finite size passes 2^62".
-fn of_measured(m: Option<u64>) -> Result<u64, Refusal>
-    ensures { result ≡ weighed_of m }
-{
-    match m {
-        Some(s) => Ok(s),
-        None => Err(Refusal::TooLarge),
-    }
 }
 
 // A size as it stands in the plan.

@@ -16,7 +16,8 @@ use Rattle.grammar.specs.Sizes.{passed, size_at, onward, scan, sizes}
 use Rattle.grammar.specs.Plan.{blank, size_in, coded, Enters, Planned, AllWeighed}
 use Rattle.grammar.specs.declared.entry.Entry.{Entry}
 use Rattle.grammar.specs.declared.refusal.Refusal.{Refusal}
-use Rattle.grammar.specs.Refusals.{accepted, refused}
+use Rattle.grammar.specs.Refusals.{accepted}
+use Rattle.grammar.specs.declared.refusal.Refused.{Refused}
 use Rattle.std.specs.Prelude.{Ok, Err}
 use Rattle.planning.proofs.Plans.{plan_none, plan_more, plan_sizes}
 use Rattle.grammar.proofs.Checked.{row_fit}
@@ -64,11 +65,11 @@ module _ {t p : List ℕ} {old plan : List Entry} {n : ℕ} (c : Weighing t p ol
   pub weighing_more : {x : Entry} → Enters t n x × (coded (row_at t p (size_in plan) n) ≡ Ok x.size) → Weighing t p old (n + 1) (set plan n x)
   weighing_more f = let (s, r, q) = coded_of (row_at t p (size_at c.zs) n) (sym here ∙ f.1) in turn s r f.0 q
 
-  pub weighing_fault : {r : Refusal} {last : List Entry} → coded (row_at t p (size_in plan) n) ≡ Err r → AllWeighed t p last (refused r n)
+  pub weighing_fault : {x : Refused} {last : List Entry} → (coded (row_at t p (size_in plan) n) ≡ Err x.refusal) × (x.node ≡ n) → AllWeighed t p last (Err x)
   unfolding scan onward
   weighing_fault f =
-      let r = coded_fault (row_at t p (size_at c.zs) n) (sym here ∙ f) in
-      record { is = stays t p (nodes t) (suc n) l (rw (c.is, r)) }
+      let r = coded_fault (row_at t p (size_at c.zs) n) (sym here ∙ f.0) in
+      record { is = rw f.1 (stays t p (nodes t) (suc n) l (rw (c.is, r))) }
 
 pub weighing_end : {t p : List ℕ} {old plan : List Entry} {n : ℕ} → Weighing t p old n plan → nodes t ≤ n → AllWeighed t p plan accepted
 unfolding sizes

@@ -43,6 +43,25 @@ fn weigh(
     Ok(Entry { kind, a, b, size })
 }
 
+// The same, a refusal with its node.
+fn weigh_node(
+    table: &[u64],
+    pool: &[u64],
+    plan: &[Entry],
+    n: usize,
+    used: &[[bool; 2]; KINDS],
+) -> Result<Entry, Refused>
+    requires used_value { used.now ≡ used_words }
+    requires table_len { (length table.now ≡ 3 * nodes table.now) × (n < nodes table.now) × (n ≤ length plan.now) }
+    ensures { MatchResult result (λ e. Enters table.now n e × (coded (row_at table.now pool.now (size_in plan.now) n) ≡ Ok e.size))
+        (λ r. (coded (row_at table.now pool.now (size_in plan.now) n) ≡ Err r.refusal) × (r.node ≡ n)) }
+{
+    weigh(table, pool, plan, n, used).map_err(|refusal| Refused {
+        refusal,
+        node: n as u64,
+    })
+}
+
 // "then nodes rising": the first fault and its node, or the plan of them all.
 pub fn weigh_all(table: &[u64], pool: &[u64], plan: &mut [Entry]) -> Result<(), Refused>
     requires table_len { length table.now ≡ 3 * nodes table.now }
@@ -51,15 +70,7 @@ pub fn weigh_all(table: &[u64], pool: &[u64], plan: &mut [Entry]) -> Result<(), 
 {
     let used = used_words();
     for n in 0..table.len() / 3 {
-        match weigh(table, pool, plan, n, &used) {
-            Err(refusal) => {
-                return Err(Refused {
-                    refusal,
-                    node: n as u64,
-                });
-            }
-            Ok(entry) => plan[n] = entry,
-        }
+        plan[n] = weigh_node(table, pool, plan, n, &used)?;
     }
     Ok(())
 }

@@ -9,7 +9,7 @@ ghost use Rattle.grammar.specs.Shown.{ShowsTwo};
 
 use super::super::entry::Entry;
 use super::super::refusal::Refusal;
-use super::{Two, asks, of_measured};
+use super::{Two, asks};
 use numbers::size;
 
 #[tactic(auto, unfolding(crate::specs::Plan::weighed, crate::specs::Plan::coded, crate::specs::Checks::row))]
@@ -19,8 +19,8 @@ pub fn check(plan: &[Entry], n: usize, a: usize, b: usize) -> Result<u64, Refusa
 {
     asks(a < n, Refusal::Reference)?;
     asks(b < n, Refusal::Reference)?;
-    let m = size::product(plan[a].size, plan[b].size);
-    of_measured(m)
+    // (8) is given "when a finite size passes 2^62".
+    size::product(plan[a].size, plan[b].size).ok_or(Refusal::TooLarge)
 }
 
 // A visit at n: both parts, at the numbers that n is made of, by the parts' sizes.

@@ -13,7 +13,7 @@ ghost use Rattle.grammar.specs.Shown.{ShowsTagged};
 use super::super::entry::Entry;
 use super::super::named::{Named, one, two};
 use super::super::refusal::Refusal;
-use super::{Tagged, asks, of_measured};
+use super::{Tagged, asks};
 use numbers::or::Part;
 use numbers::size;
 
@@ -24,8 +24,8 @@ pub fn check(plan: &[Entry], n: usize, a: usize, b: usize) -> Result<u64, Refusa
 {
     asks(a < n, Refusal::Reference)?;
     asks(b < n, Refusal::Reference)?;
-    let m = size::sum(plan[a].size, plan[b].size);
-    of_measured(m)
+    // (8) is given "when a finite size passes 2^62".
+    size::sum(plan[a].size, plan[b].size).ok_or(Refusal::TooLarge)
 }
 
 // "to both parts"; a step to the second part guards a cycle.

@@ -1,4 +1,5 @@
 use native.Mathlib.Omega.{arith}
+use Rattle.std.proofs.lemmas.Result.{err_from_is_err_and}
 use Rattle.planning.proofs.Scan.{weighing_none, weighing_more, weighing_fault, weighing_end}
 use Rattle.planning.proofs.plan.weigh_all.Goals as goal
 
@@ -8,11 +9,12 @@ loop-n-init c =
 
 pub loop-n-preserved : goal.loop-n-preserved
 loop-n-preserved c =
-    weighing_more c.loop-n.invariant (omega arith) c.in-Ok.ensures
+    weighing_more c.loop-n.invariant (omega arith) c.in_ok-plan.ensures
 
-pub returns-in-Err : goal.returns-in-Err
-returns-in-Err c =
-    weighing_fault c.loop-n.invariant (omega arith) c.in-Err.ensures
+pub returns-in_err-plan : goal.returns-in_err-plan
+returns-in_err-plan c =
+    let p = err_from_is_err_and c.from_residual.result c.from_residual.ensures.1 in
+    rw (p.1, p.2) (weighing_fault c.loop-n.invariant (omega arith) c.in_err-plan.ensures)
 
 pub returns : goal.returns
 returns c =

@@ -9,4 +9,4 @@ use Rattle.grammar.proofs.kinds.cons.check.Goals as goal
 pub returns : goal.returns
 unfolding weighed cons_rule
 returns c =
-    λ t p. pair_row times (size_in c.args.plan.now) _ _ _ c.in_ok-asks.ensures c.in_ok-asks-2.ensures c.product-m.ensures c.of_measured.ensures
+    λ t p. pair_row times (size_in c.args.plan.now) _ _ _ c.in_ok-asks.ensures c.in_ok-asks-2.ensures c.product.ensures c.ok_or.ensures.value

@@ -9,4 +9,4 @@ use Rattle.grammar.proofs.kinds.or.check.Goals as goal
 pub returns : goal.returns
 unfolding weighed or_rule
 returns c =
-    λ t p. pair_row plus (size_in c.args.plan.now) _ _ _ c.in_ok-asks.ensures c.in_ok-asks-2.ensures c.sum-m.ensures c.of_measured.ensures
+    λ t p. pair_row plus (size_in c.args.plan.now) _ _ _ c.in_ok-asks.ensures c.in_ok-asks-2.ensures c.sum.ensures c.ok_or.ensures.value
