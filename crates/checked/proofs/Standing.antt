@@ -31,7 +31,8 @@ use Rattle.walk.proofs.Ends.{walk_some}
 use Rattle.checked.specs.Fits.{room_for}
 use Rattle.checked.specs.Item.{Front, front_of, front, whole_of, whole, numbered, WalkedBy, Walked, StoodBy, Stood}
 use Rattle.checked.specs.declared.item.Item.{Item}
-use Rattle.std.specs.Prelude.{Result, Ok, Err}
+use Rattle.std.specs.Prelude.{Option, Some, None, Result, Ok, Err, unwrap_or}
+use Rattle.taking.specs.Number.{Says}
 
 take_few : (l : List ℕ) {k : ℕ} → k ≡ room_for (length l) → take k l ≡ take most l
 take_few l {k} e =
@@ -91,8 +92,12 @@ module _ (cells : List ℕ) (at : ℕ) {room : ℕ} (f : room ≡ room_for (leng
           let rest = drop (at + used) cells in
           omega (arith, some, long, ap length s.stands, length-append s.ws rest, length-drop (at + used) cells, length-drop at cells, within)
 
-      pub walked_case : Walked (rule_in plan p) i cells at (Ok (record { number = word; next = at + used }))
-      walked_case = let (n, e, x, y) = met in record { is = (n, most - used, e, x, y, on, within) }
+      -- a number past the limit is given as 2^62, which is too large as well
+      pub walked_case : (o : Option ℕ) → Says (Ok o) word → Walked (rule_in plan p) i cells at (Ok (record { number = unwrap_or o (2 ^ 62); next = at + used }))
+      walked_case (Some m) s =
+          let (n, e, x, y) = met in
+          record { is = (n, most - used, e, (λ l. x (omega (arith, s.0)) ∙ s.0), (λ l. y (omega (arith, s.0))), on, within) }
+      walked_case None s = let (n, e, x, y) = met in record { is = (n, most - used, e, (λ l. absurd (omega arith)), (λ l. y (omega (arith, s))), on, within) }
 
 -- ---- what stands at a place, by what the walk read
 -- "then 16"

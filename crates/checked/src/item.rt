@@ -61,10 +61,10 @@ impl<'a> Opened<'a> {
             pool: self.pool,
             plan: self.plan,
         };
-        let read = take(&lent, self.start, &row, DEPTH, 0, &mut used);
-        let number = read
-            .result()
-            .map_err(|unread| why(unread, MOST_CELLS <= left))?;
+        let number = match take(&lent, self.start, &row, DEPTH, 0, &mut used).result() {
+            Ok(number) => number,
+            Err(unread) => return Err(why(unread, MOST_CELLS <= left)),
+        };
         Ok(Item {
             number: number.unwrap_or(LARGEST),
             next: at + used,

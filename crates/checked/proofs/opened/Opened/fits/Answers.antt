@@ -1,6 +1,6 @@
 -- `checked::opened::Opened::fits` refuses by 12, and then by what the walk met, over a buffer.
 -- Assumes nothing.
-use mathlib.Core.Path.{refl}
+use mathlib.Core.Path.{refl, sym, ◌∙◌}
 use native.Mathlib.Omega.{arith}
 use Rattle.walk.proofs.Nodes.{raised_zero}
 use Rattle.walk.proofs.Rooms.{left_within}
@@ -13,7 +13,7 @@ lay-rest-requires-clause-visits c =
 
 pub fit_of-requires : goal.fit_of-requires
 fit_of-requires c =
-    λ l. omega (arith, left_within _ c.lay-rest.ensures.is l, lent_long c.args.out.now c.room_for-most.ensures)
+    λ k e. omega (arith, left_within _ (sym e ∙ c.lay-rest.ensures.is), lent_long c.args.out.now c.room_for-most.ensures)
 
 pub returns-then-asked : goal.returns-then-asked
 returns-then-asked c =
