@@ -7,15 +7,15 @@ use Rattle.row_calls.proofs.read_row.read_cells.Goals as goal
 
 pub done_line-requires : goal.done_line-requires
 done_line-requires c =
-    omega (arith, got_fits c.read_row.ensures c.in-Done.is)
+    omega (arith, got_fits c.read_row.ensures c.in-Ok.is)
 
-pub returns-in-Done : goal.returns-in-Done
-returns-in-Done c =
-    let (size, words) = got_words c.args.numbers.now c.fill.ensures c.read_row.ensures c.in-Done.is in
+pub returns-in-Ok : goal.returns-in-Ok
+returns-in-Ok c =
+    let (size, words) = got_words c.args.numbers.now c.fill.ensures c.read_row.ensures c.in-Ok.is in
     row_done _ _ c.fill.ensures (got_holds c.args.numbers.now c.fill.ensures c.read_row.ensures)
-    (got c.args.numbers.now c.fill.ensures c.read_row.ensures) c.in-Done.is size words c.done_line.ensures
+    (got c.args.numbers.now c.fill.ensures c.read_row.ensures) c.in-Ok.is size words c.done_line.ensures
 
-pub returns-in-Refused : goal.returns-in-Refused
-returns-in-Refused c =
+pub returns-in-Err : goal.returns-in-Err
+returns-in-Err c =
     row_refused _ _ c.fill.ensures (got_holds c.args.numbers.now c.fill.ensures c.read_row.ensures)
-    (got c.args.numbers.now c.fill.ensures c.read_row.ensures) c.in-Refused.is c.refused_at_item.ensures
+    (got c.args.numbers.now c.fill.ensures c.read_row.ensures) c.in-Err.is c.refused_at_item.ensures

@@ -6,12 +6,12 @@ use Rattle.texts.proofs.page.Putting.{told}
 use Rattle.case_calls.specs.Read.{found_text, read_text}
 use Rattle.case_calls.proofs.read.ReadOnCells.call.Goals as goal
 
-pub returns-in-Number : goal.returns-in-Number
+pub returns-in-Ok : goal.returns-in-Ok
 unfolding found_text read_text
-returns-in-Number c =
-    told (ap found_text (sym c.in-Number.is ∙ read_is _ _ _ _ c.read.ensures)) c.number_line.ensures
+returns-in-Ok c =
+    told (ap found_text (sym c.in-Ok.is ∙ read_is _ _ _ _ c.read.ensures)) c.number_line.ensures
 
-pub returns-in-Refused : goal.returns-in-Refused
+pub returns-in-Err : goal.returns-in-Err
 unfolding found_text read_text
-returns-in-Refused c =
-    told (ap found_text (sym c.in-Refused.is ∙ read_is _ _ _ _ c.read.ensures)) c.refused_line.ensures
+returns-in-Err c =
+    told (ap found_text (sym c.in-Err.is ∙ read_is _ _ _ _ c.read.ensures)) c.refused_line.ensures
