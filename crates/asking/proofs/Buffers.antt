@@ -1,5 +1,5 @@
 -- The words of a lent buffer.
---   filled_length, Filling, fill_none, fill_more, fill_all    start words, one by one
+--   filled_length, Filling, fill_more, fill_all    start words, one by one
 --   Looking, look_..                             words that have not changed
 --   start_kept                                   start words that a call left have not
 --   end_changed, end_kept                        the end of a line
@@ -17,7 +17,7 @@ use lib.Seq.{drop-cons, take_all}
 use borrow.Author.Tests.{ne_eqb, eq-eqb}
 use Rattle.lists.specs.Filled.{over}
 use Rattle.lists.proofs.Fills.{over_back}
-use Rattle.texts.proofs.Fronts.{front_more, front_length}
+use Rattle.texts.proofs.Fronts.{front_more}
 use Rattle.texts.specs.Ascii.{bytes}
 use Rattle.asking.specs.Buffer.{start_word, start_words, changed}
 use Rattle.texts.specs.declared.page.Page.{Page}
@@ -43,9 +43,6 @@ start_at place (suc count) (suc i) l = let e : suc place + i ≡ place + suc i =
 pub record Filling (old now : List ℕ) (i : ℕ) : Type 0 where
   pub few : i ≤ length old
   pub so_far : now ≡ take i (start_words 0 (length old)) ++ drop i old
-
-pub fill_none : {old : List ℕ} → Filling old old 0
-fill_none = record { few = omega arith; so_far = refl }
 
 module _ {old now : List ℕ} {i : ℕ} (s : Filling old now i) where
   pub fill_more : i < length old → {w : ℕ} → w ≡ start_word i → Filling old (set now i w) (i + 1)

@@ -1,4 +1,3 @@
 -- What the proofs of more than one function, and those of the calls, cite.
 pub mod Comparing
-pub mod Taking
 pub mod Buffers

@@ -15,7 +15,7 @@ use Rattle.std.specs.Prelude.{Option, Some, None, position, take_while}
 use Rattle.std.specs.List.{position_from}
 use Rattle.std.proofs.lemmas.Iterator.Adapters.{position_from-zero}
 use Rattle.std.proofs.lemmas.List.Sums.{take_while-cons}
-use Rattle.calling.specs.Line.{most_bytes, readable, ends, word_size}
+use Rattle.calling.specs.Line.{most_bytes, readable, word_size}
 use Rattle.calling.specs.Input.{line_size}
 
 -- ---- an input as a whole

@@ -2,13 +2,13 @@
 --   line_unknown, line_call     where no table is known, and where one is
 --   first, next, last           the call that a word names: the first of those that are left, one of the others, or none
 -- Assumes nothing.
-use mathlib.Core.Path.{◌≡◌, refl, sym, ap, ◌∙◌}
+use mathlib.Core.Path.{◌≡◌, refl, ◌∙◌}
 use mathlib.Core.Bool.{Bool, true, false}
 use mathlib.Core.List.{List, [], ◌∷◌}
 use Prim.Native.Nat.{ℕ, ◌-◌}
 use lib.Dec.{eqb}
 use lib.ListN.{length, take, drop}
-use Rattle.std.specs.Prelude.{Option, Some, None}
+use Rattle.std.specs.Prelude.{Some, None}
 use Rattle.std.specs.Cmp.Lexicographic.{pointwise}
 use Rattle.lists.proofs.Fills.{part_old}
 use Rattle.texts.specs.Said.{unreadable_text}
@@ -16,7 +16,7 @@ use Rattle.asking.specs.Same.{same}
 use Rattle.asking.proofs.Comparing.{pointwise_same}
 use Rattle.calling.specs.Line.{word_size}
 use Rattle.calling.specs.Calls.{Entry, entry, calls, chosen, line_text}
-use Rattle.calling.specs.Desk.{known_in, known_of}
+use Rattle.calling.specs.Desk.{known_of}
 use Rattle.calling.specs.declared.sizes.Sizes.{Sizes}
 use Rattle.calling.specs.declared.desk.Desk.{Desk}
 

@@ -35,7 +35,8 @@ module _ (old words : List ℕ) {filled last : List ℕ} {r says : Outcome} (sta
   unfolding row_text
   row_done e n same g = prints (told (rw (e, same, end_done (length old) words filled n (holds ∙ ap (λ (x : Outcome). leaves x words filled) e) start)) g)
 
-  pub row_refused : {x : RowRefused} → r ≡ Err x → Puts (refused_item x.refusal x.node x.item ++ end_text last 0) page page' → PrintsRow words says old last page page'
+  pub row_refused : {x : RowRefused} → r ≡ Err x → Puts (refused_item x.refusal x.node x.item ++ end_text last 0) page page'
+      → PrintsRow words says old last page page'
   unfolding row_text
   row_refused e g = prints (told (rw (e, end_left (length old) (holds ∙ ap (λ (x : Outcome). leaves x words filled) e) start)) g)
 

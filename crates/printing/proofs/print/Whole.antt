@@ -1,8 +1,8 @@
 -- What an input prints, by its shape.
 --   no_shape, some_shape
 -- Assumes nothing.
-use mathlib.Core.Path.{◌≡◌, refl, sym, ap, subst, ◌∙◌}
-use mathlib.Core.Bool.{Bool, true, false, false≢true}
+use mathlib.Core.Path.{◌≡◌, refl, ap}
+use mathlib.Core.Bool.{true, false≢true}
 use mathlib.Core.List.{List}
 use Prim.Native.Nat.{ℕ}
 use lib.ListN.{take}
@@ -12,7 +12,7 @@ use Rattle.texts.specs.Page.{Puts}
 use Rattle.texts.specs.Said.{unreadable_text}
 use Rattle.texts.proofs.page.Putting.{told as named}
 use Rattle.printing.specs.Input.{numbers_from, readable, with_numbers}
-use Rattle.printing.specs.Shape.{each_readable, Shapes}
+use Rattle.printing.specs.Shape.{Shapes}
 use Rattle.printing.specs.Printed.{told, printed, Judges}
 use Rattle.printing.specs.declared.shape.Shape.{Shape}
 

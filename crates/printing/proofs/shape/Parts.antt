@@ -5,7 +5,7 @@
 --   no_numbers                                     by those behind it
 -- Assumes nothing.
 use mathlib.Core.Path.{◌≡◌, refl, sym, ap, ◌∙◌}
-use mathlib.Core.Bool.{Bool, true, false, true≢false}
+use mathlib.Core.Bool.{Bool, false, true≢false}
 use mathlib.Core.List.{List, [], ◌∷◌}
 use Prim.Native.Nat.{ℕ, ◌≤◌, ◌<◌}
 use native.Mathlib.Omega.{arith}
@@ -15,7 +15,7 @@ use Rattle.std.specs.Prelude.{Option, Some, None}
 use Rattle.texts.specs.Line.{Reading, numbers, unreadable, line_at, within, ReadLine}
 use Rattle.texts.specs.declared.line.Line.{Line}
 use Rattle.texts.proofs.line.Answered.{ReadNumbers, read_numbers, read_within, read_front, read_unreadable}
-use Rattle.printing.specs.Input.{Input, unclear, most_bytes, table_words, pool_words, not_empty, table_line, pool_line, one_at, numbers_from, readable}
+use Rattle.printing.specs.Input.{unclear, most_bytes, table_words, pool_words, not_empty, table_line, pool_line, one_at, numbers_from, readable}
 use Rattle.printing.specs.Input.{with_numbers, with_start, with_pool, with_table, input_of}
 use Rattle.printing.specs.declared.input.One.{One}
 

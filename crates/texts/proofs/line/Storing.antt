@@ -1,6 +1,6 @@
 -- The numbers of a line, stored one by one.
 --   Storing    what is known at a place: the numbers stored so far, and those of the rest
---   store_start, store_not, store_within, store_more, store_same, store_end    the loop's steps
+--   store_start, store_not, store_within, store_more    the loop's steps
 -- Assumes nothing.
 use mathlib.Core.Path.{◌≡◌, refl, sym, ap, ◌∙◌}
 use mathlib.Core.Bool.{Bool, true, false}
@@ -13,10 +13,10 @@ use lib.ListN.{length, get_or, take, drop, set, length-drop}
 use lib.Seq.{drop-cons}
 use borrow.Author.Tests.{ltb-true, ltb-false, eqb-true, eqb-false}
 use Rattle.texts.specs.Numeral.{numeral_at}
-use Rattle.texts.specs.Line.{Reading, numbers, unreadable, line_at, stored, HasCount}
+use Rattle.texts.specs.Line.{Reading, numbers, unreadable, line_at, HasCount}
 use Rattle.texts.specs.declared.numeral.Numeral.{Numeral}
 use Rattle.std.specs.Prelude.{Option, Some, None}
-use Rattle.texts.proofs.Fronts.{front_more, front_length, front_all}
+use Rattle.texts.proofs.Fronts.{front_more}
 use Rattle.texts.proofs.line.Answered.{readable_not}
 use Rattle.texts.proofs.line.Rest.{rest_at, onto, line_some, rest_not, rest_over, rest_lf, rest_space, rest_other}
 
@@ -79,12 +79,6 @@ store_start {text} {at} {old} h = by (line_at text at) refl h
     by unreadable e c = absurd c
 
 module _ {text : List ℕ} {at : ℕ} {old out : List ℕ} {i k : ℕ} (s : Storing text at old out i k) where
-  pub store_same : length out ≡ length old
-  store_same = ap length s.so_far ∙ front_length s.ns old k (omega arith) (omega arith)
-
-  pub store_end : length old ≤ k → out ≡ stored old (line_at text at)
-  store_end l = rw s.is (s.so_far ∙ front_all s.ns old k (omega arith))
-
   module _ (h : k < length old) {r : Option Numeral} (a : r ≡ numeral_at text i) where
     pub store_not : r ≡ None → ⊥
     store_not e = readable_not (sym (rest_not text i (sym a ∙ e)) ∙ s.rest h)

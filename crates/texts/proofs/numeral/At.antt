@@ -49,7 +49,8 @@ pub at_past_end : (text : List ℕ) (at : ℕ) → length text < at → None ≡
 unfolding run
 at_past_end text at l = rw (drop_of_length-le text {i = at} (omega arith)) (none [] at refl)
 
-module _ (text : List ℕ) (at : ℕ) {rest : List ℕ} (w : rest ≡ slice_range text at (length text)) {size : ℕ} (e : size ≡ length (take_while is_ascii_digit rest)) where
+module _ (text : List ℕ) (at : ℕ) {rest : List ℕ} (w : rest ≡ slice_range text at (length text)) {size : ℕ}
+    (e : size ≡ length (take_while is_ascii_digit rest)) where
   digits_size : size ≡ length (run rest)
   digits_size = e ∙ ap length (run_is rest)
 

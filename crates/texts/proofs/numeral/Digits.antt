@@ -1,5 +1,5 @@
 -- Runs of digits as lists.
---   digit_is, digit_low        the bytes from '0' to '9'
+--   digit_low                  the bytes from '0' to '9'
 --   Digits, Stops              every byte is a digit; no digit at the front
 --   digits_each                of digits, the byte at a place
 --   run_digits, run_stops, run_split    a run has only digits, no digit stands behind it, and the two are the text
@@ -15,14 +15,11 @@ use Prim.Native.Nat.{ℕ, zero, suc, ◌+◌, ◌^◌, ◌≤◌, ◌<◌}
 use native.Mathlib.Omega.{arith}
 use lib.Dec.{leb, ltb}
 use lib.ListN.{length, get_or, drop, length-append, length-drop}
-use borrow.Author.Tests.{le-leb, leb-true}
+use borrow.Author.Tests.{leb-true}
 use Rattle.texts.specs.Ascii.{is_digit}
 use Rattle.texts.specs.Numeral.{run, value, well_formed, numeral, numeral_at}
 use Rattle.texts.specs.declared.numeral.Numeral.{Numeral}
 use Rattle.std.specs.Prelude.{Option, Some, None}
-
-pub digit_is : (b : ℕ) → 48 ≤ b → b ≤ 57 → is_digit b ≡ true
-digit_is b l h = rw (le-leb 48 b l, le-leb b 57 h)
 
 pub digit_low : (b : ℕ) → is_digit b ≡ true → 48 ≤ b
 digit_low b e = leb-true 48 b (and_elim_left (leb 48 b) (leb b 57) e)

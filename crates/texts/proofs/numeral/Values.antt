@@ -1,14 +1,14 @@
 -- The value of digits, as a loop over them builds it.
 --   is_word, is_past, word_back, past_back    a number as a word, and back
---   digit_low, digit_high     what a digit's byte is
+--   digit_low                 what a digit's byte is
 --   value_least               more digits give no less
 --   Valued                    what is known at a place: the value is that of the digits so far and of those from here
---   valued_start, valued_more, valued_past, valued_end    the loop's steps
+--   valued_more, valued_past, valued_end    the loop's steps
 -- Assumes nothing.
 use mathlib.Core.Path.{◌≡◌, refl, sym, subst, ◌∙◌}
 use mathlib.Core.Bool.{Bool, true, false, cond}
 use mathlib.Core.List.{List, [], ◌∷◌}
-use mathlib.Mathlib.Data.Bool.Basic.{and_elim_left, and_elim_right}
+use mathlib.Mathlib.Data.Bool.Basic.{and_elim_left}
 use Prim.Native.Nat.{ℕ, ◌+◌, ◌*◌, ◌-◌, ◌^◌, ◌≤◌, ◌<◌}
 use native.Mathlib.Numerals.{add-one}
 use native.Mathlib.Omega.{arith}
@@ -54,9 +54,6 @@ module _ {ds : List ℕ} (all : run ds ≡ ds) {i : ℕ} (l : i < length ds) whe
   pub digit_low : 48 ≤ get_or ds i 0
   digit_low = leb-true 48 (get_or ds i 0) (and_elim_left (leb 48 (get_or ds i 0)) (leb (get_or ds i 0) 57) digit)
 
-  pub digit_high : get_or ds i 0 ≤ 57
-  digit_high = leb-true (get_or ds i 0) 57 (and_elim_right (leb 48 (get_or ds i 0)) (leb (get_or ds i 0) 57) digit)
-
 -- ---- Horner's rule
 pub value_least : (v : ℕ) (ds : List ℕ) → v ≤ value_from v ds
 unfolding value_from
@@ -67,9 +64,6 @@ value_least v (d ∷ ds) = omega (arith, value_least (10 * v + (d - 48)) ds)
 pub record Valued (digits : List ℕ) (v i : ℕ) : Type 0 where
   pub is : value digits ≡ value_from v (drop i digits)
   pub word : v < 2 ^ 64
-
-pub valued_start : {digits : List ℕ} → Valued digits 0 0
-valued_start = record { is = refl; word = omega arith }
 
 module _ {digits : List ℕ} {v i : ℕ} (s : Valued digits v i) where
   pub valued_end : length digits ≤ i → Some v ≡ worded (value digits)

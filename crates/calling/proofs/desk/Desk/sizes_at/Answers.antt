@@ -1,6 +1,5 @@
 -- `calling::desk::Desk::sizes_at` knows a table where both lines can be read.
 -- Assumes nothing.
-use mathlib.Core.Path.{◌≡◌}
 use native.Mathlib.Omega.{arith}
 use Rattle.calling.proofs.Tables.{no_table, no_pool, both}
 use Rattle.calling.proofs.desk.Desk.sizes_at.Goals as goal

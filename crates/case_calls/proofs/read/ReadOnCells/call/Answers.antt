@@ -1,6 +1,6 @@
 -- `case_calls::read::ReadOnCells::call` prints what `read` answers of the cells.
 -- Assumes nothing.
-use mathlib.Core.Path.{◌≡◌, sym, ap, ◌∙◌}
+use mathlib.Core.Path.{sym, ap, ◌∙◌}
 use Rattle.cases.proofs.Values.{read_is}
 use Rattle.texts.proofs.page.Putting.{told}
 use Rattle.case_calls.specs.Read.{found_text, read_text}

@@ -2,7 +2,6 @@
 -- Assumes nothing.
 use mathlib.Core.Path.{refl, sym, ◌∙◌}
 use native.Mathlib.Omega.{arith}
-use lib.ListN.{take}
 use Rattle.printing.proofs.shape.Parts.{too_long, no_table, empty_table, some_table, no_pool, some_pool, no_start, some_start, no_numbers}
 use Rattle.printing.proofs.shape.Shape.read.Goals as goal
 
