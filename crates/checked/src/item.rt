@@ -55,7 +55,7 @@ fn case_at<'a>(
     let row = &cells[at..at + few];
     let mut used: usize = 0;
     let lent = Lent { pool, plan };
-    let number = match take(&lent, start, &row, DEPTH, 0, &mut used).result() {
+    let number = match take(&lent, start, row, DEPTH, 0, &mut used).result() {
         Ok(number) => number,
         Err(unread) => return Err(why(unread, MOST_CELLS <= left)),
     };
