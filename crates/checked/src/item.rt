@@ -61,7 +61,7 @@ impl<'a> Opened<'a> {
             pool: self.pool,
             plan: self.plan,
         };
-        let number = match take(&lent, self.start, &row, DEPTH, 0, &mut used).result() {
+        let number = match take(&lent, self.start, row, DEPTH, 0, &mut used).result() {
             Ok(number) => number,
             Err(unread) => return Err(why(unread, MOST_CELLS <= left)),
         };

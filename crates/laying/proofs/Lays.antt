@@ -1,5 +1,5 @@
 -- A writing walk over a buffer that is its own room, put together from those of its parts.
---   lent_long, rest_within, lent_most, lent_set   the part of a buffer that is lent on
+--   lent_long, rest_within   the part of a buffer that is lent on
 --   laid_deep, laid_full, laid_none  refused: what the buffer holds is not said
 --   laid_one, laid_tag     a cell; a cell and then a walk over what is left
 --   both_stop, laid_stops, laid_two   a walk that stops; one walk and then another over what is left
@@ -8,7 +8,7 @@ use mathlib.Core.Path.{◌≡◌, refl, sym, ap, subst, ◌∙◌}
 use mathlib.Core.List.{List, [], ◌∷◌, ◌++◌}
 use Prim.Native.Nat.{ℕ, ◌-◌, ◌≤◌, min}
 use native.Mathlib.Omega.{arith}
-use lib.ListN.{length, take, drop, set, length-set, length-append, length-take, length-drop}
+use lib.ListN.{length, take, drop, set, length-append, length-take, length-drop}
 use Rattle.walk.specs.Walk.{Event, cell, cells}
 use Rattle.lists.specs.Filled.{over}
 use Rattle.walk.specs.Laid.{Laid}
@@ -26,14 +26,6 @@ lent_long k mid = omega (arith, length-take (length mid - k) (drop k mid), lengt
 -- what is left of a buffer is no more than it has
 pub rest_within : {xs : List Event} {old mid : List ℕ} {rest : ℕ} {a : RoomLeft} → Laid (length old) xs old mid a → Left rest ≡ a → rest ≤ length mid
 rest_within {xs} h e = omega (arith, left_within xs (e ∙ h.is), h.long)
-
--- after a walk, and after a store
-pub lent_most : (k : ℕ) {room : ℕ} {es : List Event} {old mid : List ℕ} {b : RoomLeft} → Laid room es old mid b → length old ≤ most
-    → length (take (length mid - k) (drop k mid)) ≤ most
-lent_most k {mid = mid} h l = omega (arith, lent_long k mid, h.long)
-
-pub lent_set : (x : ℕ) (old : List ℕ) → length old ≤ most → length (take (length (set old 0 x) - 1) (drop 1 (set old 0 x))) ≤ most
-lent_set x old l = omega (arith, lent_long 1 (set old 0 x), length-set old 0 x)
 
 -- ---- refused
 module _ {room : ℕ} {es : List Event} {old last : List ℕ} (same : length last ≡ length old) where

@@ -93,7 +93,7 @@ module _ {plan : List Entry} {i h : ℕ} {w : Option ℕ} where
   width_higher : {h' : ℕ} → h ≤ h' → Width plan i w h → Width plan i w h'
   width_higher l b = record { bounds = λ k e. let g = b.bounds k e in (g.0, record { fits = λ p n up d v o. g.1.fits p n up d v (omega arith) }) }
 
-  pub width_none : None ≡ w → Width plan i w h
+  width_none : None ≡ w → Width plan i w h
   width_none e = record { bounds = λ k q. let z : ◌≡◌ {A = ℕ} 0 1 = cc in absurd (omega arith) }
 
 -- what is known is no more than a case may have

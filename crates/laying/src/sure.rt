@@ -31,7 +31,7 @@ fn part(widths: &[Option<usize>; NODES], a: usize) -> Option<usize>
 }
 
 // A width of node k, from those of its parts. A part that is not filled yet is not known, and so is what is
-// made of it. Of a dep it is not known, whose seconds are in the pool, nor of an again, which leads back
+// made of it. Of a kind without a line it is not known: a dep has seconds in the pool, an again leads back
 // to its fix.
 fn width_of(plan: &[Entry], k: usize, widths: &[Option<usize>; NODES]) -> Option<usize>
     requires k_in_bounds { k < length plan.now }
@@ -48,7 +48,7 @@ fn width_of(plan: &[Entry], k: usize, widths: &[Option<usize>; NODES]) -> Option
         Kind::Cons => known(part(widths, a)? + part(widths, b as usize)?),
         Kind::Except => part(widths, a),
         Kind::Fix => part(widths, a),
-        Kind::Dep | Kind::Again => None,
+        _ => None,
     }
 }
 

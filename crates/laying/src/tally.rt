@@ -1,4 +1,6 @@
 // The pass that decides by the room and writes nothing. What a cell is does not matter to it.
+// One walk for it and for `lay`, over a trait of outputs, would lend on the middle of an output: that is an associated
+// type with a lifetime of its own, which Rattle does not have.
 ghost use Rattle.std.specs.Prelude.{◌≡◌, [], ◌∷◌, ◌+◌, ◌^◌, ◌≤◌};
 ghost use Rattle.grammar.specs.Plan.{rule_in};
 ghost use Rattle.walk.specs.Walk.{cell, walk};

@@ -1,6 +1,6 @@
 -- What the reading walk's calls ask, of what it has: a part at the same depth left, or one less.
 --   Bounds       of a depth left, of what shifts take off, and of a place in the row
---   part_first   a first part, under the same shifts; part_next a later one, under none
+--   part_next    a later part, under no shifts
 --   visit_..     the same for the calls of a visit, one depth less
 -- Assumes nothing.
 use mathlib.Core.Path.{◌≡◌}
@@ -12,9 +12,6 @@ Bounds left off at long = (left ≤ 200) × (off + left * 2 ^ 32 ≤ 200 * 2 ^ 3
 
 -- the calls of a shape, whose measure is one more
 module _ {left t long : ℕ} (e : 2 * left + 1 ≡ t) where
-  pub part_first : (off at : ℕ) → Bounds left off at long → {A : Type 0} → A → (2 * left < t) × (A × Bounds left off at long)
-  part_first off at h r = (omega arith, (r, h))
-
   pub part_next : {next : ℕ} → left ≤ 200 → next ≤ long → long ≤ 65536 → {A : Type 0} → A → (2 * left < t) × (A × Bounds left 0 next long)
   part_next l n b r = (omega arith, (r, (l, omega arith, n, b)))
 

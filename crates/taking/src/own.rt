@@ -21,22 +21,22 @@ fn cell_at(row: &[u64], at: usize, off: u64) -> Result<u64, Unread>
 }
 
 // nats: any number
-pub fn any(row: &&[u64], off: u64, at: &mut usize) -> Result<Option<u64>, Unread>
-    requires { (at.old ≤ length row.now.now) × (length row.now.now ≤ 65536) }
-    ensures { TakenOwn nats_rule.tree off row.now.now at.old at.new (word result) }
+pub fn any(row: &[u64], off: u64, at: &mut usize) -> Result<Option<u64>, Unread>
+    requires { (at.old ≤ length row.now) × (length row.now ≤ 65536) }
+    ensures { TakenOwn nats_rule.tree off row.now at.old at.new (word result) }
 {
-    let c = cell_at(*row, *at, off)?;
+    let c = cell_at(row, *at, off)?;
     *at += 1;
     Ok(cap(c))
 }
 
 // below: a number below a count
-pub fn counted(a: u64, row: &&[u64], off: u64, at: &mut usize) -> Result<u64, Unread>
-    requires { (a ≤ 2 ^ 62) × (at.old ≤ length row.now.now) × (length row.now.now ≤ 65536) }
+pub fn counted(a: u64, row: &[u64], off: u64, at: &mut usize) -> Result<u64, Unread>
+    requires { (a ≤ 2 ^ 62) × (at.old ≤ length row.now) × (length row.now ≤ 65536) }
     ensures low { IfOk result (λ m. m < a) }
-    ensures reads { TakenOwn (below_rule a).tree off row.now.now at.old at.new (word (exactly result)) }
+    ensures reads { TakenOwn (below_rule a).tree off row.now at.old at.new (word (exactly result)) }
 {
-    let c = cell_at(*row, *at, off)?;
+    let c = cell_at(row, *at, off)?;
     let m = below::place_of(a, c).ok_or(Unread::NotACase)?;
     *at += 1;
     Ok(m)
@@ -47,16 +47,16 @@ pub fn listed(
     lent: &Lent,
     a: usize,
     b: usize,
-    row: &&[u64],
+    row: &[u64],
     off: u64,
     at: &mut usize,
 ) -> Result<u64, Unread>
     requires b_bound { (b ≤ 4096) × (a + b ≤ length (pool_of lent.now)) × (length (pool_of lent.now) ≤ 4096) }
-    requires at_in_bounds { (at.old ≤ length row.now.now) × (length row.now.now ≤ 65536) }
+    requires at_in_bounds { (at.old ≤ length row.now) × (length row.now ≤ 65536) }
     ensures { TakenOwn (pool_rule (front b (drop a (pool_of lent.now))) b).tree off
-        row.now.now at.old at.new (word (exactly result)) }
+        row.now at.old at.new (word (exactly result)) }
 {
-    let c = cell_at(*row, *at, off)?;
+    let c = cell_at(row, *at, off)?;
     let m = pool::place_of(lent.pool, a, b, c).ok_or(Unread::NotACase)?;
     *at += 1;
     Ok(m)

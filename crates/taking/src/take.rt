@@ -1,4 +1,5 @@
 // The reading walk: a line a kind, and a function for each shape of visits that reads parts.
+// Row and place go apart: a lent row stays as it is, and of a struct of both each clause would have to say so.
 ghost use Rattle.std.specs.Prelude.{◌+◌, ◌-◌, ◌*◌, ◌^◌, ◌≤◌, ◌<◌, length};
 ghost use Rattle.grammar.specs.Plan.{rule_in};
 ghost use Rattle.grammar.specs.kinds.Or.{or as or_kind};
@@ -27,15 +28,15 @@ fn tagged(
     lent: &Lent,
     a: usize,
     b: usize,
-    row: &&[u64],
+    row: &[u64],
     left: usize,
     off: u64,
     at: &mut usize,
 ) -> Result<Option<u64>, Unread>
     requires reading { Reading (plan_of lent.now) (pool_of lent.now) a × Reading (plan_of lent.now) (pool_of lent.now) b }
-    requires left_bound { (left ≤ 200) × (at.old ≤ length row.now.now) × (length row.now.now ≤ 65536) }
+    requires left_bound { (left ≤ 200) × (at.old ≤ length row.now) × (length row.now ≤ 65536) }
     ensures { TakenBy or_kind (plan_of lent.now) (pool_of lent.now) a b left off
-        row.now.now at.old at.new (word result) }
+        row.now at.old at.new (word result) }
 {
     let tag = counted(TAGS, row, off, at)?;
     let s = or::sides_of(tag, a, b);
@@ -51,15 +52,15 @@ fn both(
     lent: &Lent,
     a: usize,
     b: usize,
-    row: &&[u64],
+    row: &[u64],
     left: usize,
     off: u64,
     at: &mut usize,
 ) -> Result<Option<u64>, Unread>
     requires reading { Reading (plan_of lent.now) (pool_of lent.now) a × Reading (plan_of lent.now) (pool_of lent.now) b }
-    requires roomy { Roomy left off at.old row.now.now }
+    requires roomy { Roomy left off at.old row.now }
     ensures { TakenBy cons_kind (plan_of lent.now) (pool_of lent.now) a b left off
-        row.now.now at.old at.new (word result) }
+        row.now at.old at.new (word result) }
 {
     let first = take(lent, a, row, left, off, at).result()?;
     let second = take(lent, b, row, left, 0, at).result()?;
@@ -78,15 +79,15 @@ fn chosen(
     lent: &Lent,
     a: usize,
     b: usize,
-    row: &&[u64],
+    row: &[u64],
     left: usize,
     off: u64,
     at: &mut usize,
 ) -> Result<Option<u64>, Unread>
     requires choosing { Choosing (plan_of lent.now) (pool_of lent.now) a b }
-    requires roomy { Roomy left off at.old row.now.now }
+    requires roomy { Roomy left off at.old row.now }
     ensures { TakenBy dep_kind (plan_of lent.now) (pool_of lent.now) a b left off
-        row.now.now at.old at.new (word result) }
+        row.now at.old at.new (word result) }
 {
     match take(lent, a, row, left, off, at).result()? {
         Some(x) => {
@@ -106,15 +107,15 @@ fn without(
     lent: &Lent,
     a: usize,
     b: u64,
-    row: &&[u64],
+    row: &[u64],
     left: usize,
     off: u64,
     at: &mut usize,
 ) -> Result<Option<u64>, Unread>
     requires reading { Reading (plan_of lent.now) (pool_of lent.now) a × (b < 2 ^ 62) }
-    requires roomy { Roomy left off at.old row.now.now }
+    requires roomy { Roomy left off at.old row.now }
     ensures { TakenBy except_kind (plan_of lent.now) (pool_of lent.now) a b left off
-        row.now.now at.old at.new (word result) }
+        row.now at.old at.new (word result) }
 {
     match take(lent, a, row, left, off, at).result()? {
         Some(m) => {
@@ -130,11 +131,11 @@ fn without(
 // "Reading walks the same nodes from cells": the walk calls itself on parts, and the depth left falls.
 // `off` is what the shifts above take off the first cell.
 #[cycle(both_chosen_tagged_take_without)]
-pub fn take(lent: &Lent, i: usize, row: &&[u64], left: usize, off: u64, at: &mut usize) -> Number
+pub fn take(lent: &Lent, i: usize, row: &[u64], left: usize, off: u64, at: &mut usize) -> Number
     requires reading { Reading (plan_of lent.now) (pool_of lent.now) i }
-    requires roomy { Roomy left off at.old row.now.now }
+    requires roomy { Roomy left off at.old row.now }
     ensures { Taken (2 ^ 62 + (201 - left)) (run (rule_in (plan_of lent.now) (pool_of lent.now)) left off i)
-        row.now.now at.old at.new result }
+        row.now at.old at.new result }
 {
     if left == 0 {
         return Number::of(Err(Unread::TooDeep));

@@ -3,7 +3,6 @@
 --   below_by      a visit is at a number below the size of its rule
 --   checks_by, checked_by   its checks are passed, and what follows from them
 --   kind_at       the kind of a node
---   in_plan       a node is in the plan
 --   reads_..      other nodes of the plan; two-.. of two parts
 --   raised_..     what stands under a shift
 -- Assumes nothing.
@@ -11,10 +10,10 @@ use mathlib.Core.Path.{◌≡◌, refl, sym, ap, subst, ◌∙◌}
 use mathlib.Core.Bool.{true, false, ◌||◌, false≢true}
 use mathlib.Core.Logic.{◌⊎◌, inl, inr, ⊎_elim}
 use mathlib.Core.List.{List, [], ◌∷◌}
-use Prim.Native.Nat.{ℕ, ◌≤◌, ◌<◌}
+use Prim.Native.Nat.{ℕ, ◌<◌}
 use native.Mathlib.Omega.{arith}
 use lib.Dec.{eqb}
-use lib.ListN.{length, get_or}
+use lib.ListN.{get_or}
 use borrow.Author.Tests.{eqb-true}
 use Rattle.numbers.specs.Size.{Size, Below, NotZero, size_of}
 use Rattle.numbers.proofs.size.SizeWords.{by_size}
@@ -78,12 +77,6 @@ module _ {plan : List Entry} {p : List ℕ} {i : ℕ} (r : Reading plan p i) whe
   pub parts_by : {k : Word} → kind_at plan i ≡ k → Under r.walks.count ((ruled k).steps true)
   parts_by e = subst (λ (t : Rule). Under r.walks.count (t.steps true)) (rule_of e) (r.walks.good.lawful i r.node).inside
 
-  pub in_plan : (i < length plan) × (length plan ≤ 256)
-  in_plan = (omega (arith, r.node, r.walks.long), r.walks.short)
-
-  pub reads_in : i < length plan
-  reads_in = in_plan.0
-
   -- ---- other nodes of the plan
   abbrev pub reads_at : (j : ℕ) → j < r.walks.count → Reading plan p j
   reads_at j l = record { walks = r.walks; node = l }
@@ -94,9 +87,6 @@ module _ {plan : List Entry} {p : List ℕ} {i : ℕ} (r : Reading plan p i) whe
   module _ {a b : ℕ} (u : Under r.walks.count (a ∷ b ∷ [])) where
     pub reads_two : Reading plan p a × Reading plan p b
     reads_two = (reads_at a u.0, reads_at b u.1.0)
-
-    pub two_in : (a < length plan) × (b < length plan)
-    two_in = (omega (arith, u.0, r.walks.long), omega (arith, u.1.0, r.walks.long))
 
     -- as `grammar::kinds::cons` asks for them
     pub two_some : (0 < size_word plan a) × (0 < size_word plan b)

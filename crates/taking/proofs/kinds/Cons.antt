@@ -38,7 +38,7 @@ module _ (plan : List Entry) (p : List ℕ) (a b left off : ℕ) {row : List ℕ
     unfolding cons_rule
     cons_stays big = two_stays go off (λ m. b) joined h s (λ m q. refl) (λ m q n. least m n) (omega arith) k big
 
-    pub cons_big : y < 2 ^ 63 → 2 ^ 63 ≤ x → TakenBy cons_kind plan p a b left off row at next (2 ^ 63)
+    cons_big : y < 2 ^ 63 → 2 ^ 63 ≤ x → TakenBy cons_kind plan p a b left off row at next (2 ^ 63)
     unfolding cons_rule
     cons_big small big = two_big go off (λ m. b) joined h s (λ m q. refl) (λ m q n. least m n) (omega arith) k small big
 

@@ -1,57 +1,21 @@
 use mathlib.Core.Path.{refl}
 use native.Mathlib.Omega.{arith}
-use lib.ListN.{length-set}
 use Rattle.walk.proofs.Rooms.{tallied_deep}
-use Rattle.laying.proofs.Lays.{lent_most, lent_set, laid_deep, laid_none, laid_stops, laid_two, laid_tag}
+use Rattle.laying.proofs.Lays.{laid_deep, laid_none, laid_stops, laid_two, laid_tag}
 use Rattle.walk.proofs.Visit.{walk_deep, walk_cell, walk_word, walk_pass, walk_same, walk_tag, walk_two, visited, next_by}
 use Rattle.numbers.specs.Size.{endless}
 use Rattle.grammar.proofs.laws.{rules}
 use Rattle.grammar.proofs.laws.Pool.{pool_in, pool_at}
 use Rattle.grammar.proofs.laws.Shift.{shift_small, shift_bare}
-use Rattle.walk.proofs.Nodes.{items_by, below_by, checked_by, parts_by, part_at, two_in, two_some, raised_none, raised_bare, raised_zero}
+use Rattle.walk.proofs.Nodes.{items_by, below_by, checked_by, parts_by, part_at, two_some, raised_none, raised_bare}
 use Rattle.walk.proofs.Choosing.{choosing, dep_items, dep_low}
 use Rattle.laying.proofs.Calls.{laid_by, lay_part, lay_shift, to_tagged, to_both}
 use Rattle.laying.proofs.lay.+both_lay_tagged.Goals as goal
-
-pub both-lay-requires : goal.both-lay-requires
-unfolding rules
-both-lay-requires t c = (
-  omega (arith, c.decreases),
-  (
-    (c.requires.visits_two.0, raised_zero _ _),
-    (c.requires.left_bound.0, omega (arith, c.requires.left_bound.2), c.requires.left_bound.2, c.requires.left_bound.3),
-  ),
-)
-
-pub both-lay-requires-in-Ok : goal.both-lay-requires-in-Ok
-unfolding rules
-both-lay-requires-in-Ok t c = (
-  omega (arith, c.decreases),
-  (
-    (c.requires.visits_two.1, raised_zero _ _),
-    (
-      c.requires.left_bound.1,
-      omega (arith, c.requires.left_bound.2),
-      c.requires.left_bound.2,
-      lent_most _ c.lay.ensures c.requires.left_bound.3,
-    ),
-  ),
-)
-
-pub both-shape_of-out-in-Ok : goal.both-shape_of-out-in-Ok
-unfolding rules
-both-shape_of-out-in-Ok t c =
-    (laid_two c.lay.ensures c.in-Ok.ensures refl c.lay-in-Ok.ensures refl).long
 
 pub both-returns-in-Ok : goal.both-returns-in-Ok
 unfolding rules
 both-returns-in-Ok t c =
     laid_two c.lay.ensures c.in-Ok.ensures refl c.lay-in-Ok.ensures refl
-
-pub both-shape_of-out-in-Err : goal.both-shape_of-out-in-Err
-unfolding rules
-both-shape_of-out-in-Err t c =
-    c.lay.ensures.long
 
 pub both-returns-in-Err : goal.both-returns-in-Err
 unfolding rules
@@ -63,45 +27,11 @@ unfolding rules
 lay-returns-then-left-eq0 t c =
     rw c.stopped.ensures (laid_by (walk_deep _ _ _ _ c.if-left-eq0.true) (laid_deep refl (tallied_deep _)))
 
-pub lay-overflow_add-n : goal.lay-overflow_add-n
-unfolding rules
-lay-overflow_add-n t c =
-    omega (arith, c.requires.left_bound.0, c.requires.left_bound.1)
-
-pub lay-put-requires : goal.lay-put-requires
-unfolding rules
-lay-put-requires t c =
-    c.requires.left_bound.3
-
-pub lay-overflow_add-n-in-Nats : goal.lay-overflow_add-n-in-Nats
-unfolding rules
-lay-overflow_add-n-in-Nats t c =
-    omega (arith, c.requires.left_bound.0, c.requires.left_bound.1)
-
-pub lay-put-requires-in-Nats : goal.lay-put-requires-in-Nats
-unfolding rules
-lay-put-requires-in-Nats t c =
-    c.requires.left_bound.3
-
 pub lay-step-requires : goal.lay-step-requires
 unfolding rules
 lay-step-requires t c =
     let v = c.requires.visits.0 in
     let k = c.in-Pool.is in (omega (arith, below_by v k, (checked_by (visited v) k pool_in).1), v.walks.slight)
-
-pub lay-put-requires-in-Pool : goal.lay-put-requires-in-Pool
-unfolding rules
-lay-put-requires-in-Pool t c =
-    c.requires.left_bound.3
-
-pub lay-overflow_add-up : goal.lay-overflow_add-up
-unfolding rules
-lay-overflow_add-up t c =
-    omega (
-      arith,
-      c.requires.left_bound.1,
-      checked_by (visited c.requires.visits.0) c.in-Shift.is shift_small,
-    )
 
 pub lay-lay-requires : goal.lay-lay-requires
 unfolding rules
@@ -110,26 +40,11 @@ lay-lay-requires t c =
     let k = c.in-Shift.is in lay_shift _ c.decreases c.if-left-eq0.false c.requires.left_bound
     (next_by v (items_by v k refl)).0 (raised_bare (checked_by (visited v) k shift_bare)) (checked_by (visited v) k shift_small)
 
-pub lay-step-requires-in-Or : goal.lay-step-requires-in-Or
-unfolding rules
-lay-step-requires-in-Or t c =
-    let v = visited c.requires.visits.0 in two_in v
-    (parts_by v c.in-Or.is)
-
 pub lay-tagged-requires : goal.lay-tagged-requires
 unfolding rules
 lay-tagged-requires t c =
     let v = c.requires.visits.0 in let near = c.requires.left_bound in to_tagged c.decreases c.if-left-eq0.false (near.0, near.2, near.3)
     (next_by v (items_by v c.in-Or.is c.step-in-Or.ensures)).0
-
-pub lay-step-requires-in-Cons : goal.lay-step-requires-in-Cons
-unfolding rules
-lay-step-requires-in-Cons t c =
-    let v = visited c.requires.visits.0 in let l = parts_by v
-    c.in-Cons.is in record {
-      a_in_bounds = two_in v l;
-      nonzero = two_some v l;
-    }
 
 pub lay-both-requires : goal.lay-both-requires
 unfolding rules
@@ -137,24 +52,11 @@ lay-both-requires t c =
     let v = c.requires.visits.0 in let n = next_by v (items_by v c.in-Cons.is c.step-in-Cons.ensures) in
     let near = c.requires.left_bound in to_both c.decreases c.if-left-eq0.false (near.0, near.2, near.3) n.0 n.1.0
 
-pub lay-step-requires-in-Dep : goal.lay-step-requires-in-Dep
-unfolding rules
-lay-step-requires-in-Dep t c =
-    let v = c.requires.visits.0 in record {
-      dep_in = ((choosing (visited v) c.in-Dep.is).words, v.walks.slight);
-      n_bound = dep_low v c.in-Dep.is;
-    }
-
 pub lay-both-requires-in-Dep : goal.lay-both-requires-in-Dep
 unfolding rules
 lay-both-requires-in-Dep t c =
     let v = c.requires.visits.0 in let n = next_by v (dep_items v c.in-Dep.is (c.step-in-Dep.ensures endless)) in
     let near = c.requires.left_bound in to_both c.decreases c.if-left-eq0.false (near.0, near.2, near.3) n.0 n.1.0
-
-pub lay-split-requires : goal.lay-split-requires
-unfolding rules
-lay-split-requires t c =
-    omega (arith, c.requires.left_bound.0)
 
 pub lay-lay-requires-in-Except : goal.lay-lay-requires-in-Except
 unfolding rules
@@ -174,32 +76,17 @@ lay-lay-requires-in-Again t c =
     let v = c.requires.visits.0 in lay_part
     _ c.decreases c.if-left-eq0.false c.requires.left_bound (next_by v (items_by v c.in-Again.is refl)).0
 
-pub lay-shape_of-out-in-Below : goal.lay-shape_of-out-in-Below
-unfolding rules
-lay-shape_of-out-in-Below t c =
-    c.put.ensures.long
-
 pub lay-returns-in-Below : goal.lay-returns-in-Below
 unfolding rules
 lay-returns-in-Below t c =
     laid_by (walk_cell _ _ _ _ c.if-left-eq0.false (items_by c.requires.visits.0 c.in-Below.is refl) refl)
     c.put.ensures
 
-pub lay-shape_of-out-in-Nats : goal.lay-shape_of-out-in-Nats
-unfolding rules
-lay-shape_of-out-in-Nats t c =
-    c.put-in-Nats.ensures.long
-
 pub lay-returns-in-Nats : goal.lay-returns-in-Nats
 unfolding rules
 lay-returns-in-Nats t c =
     laid_by (walk_cell _ _ _ _ c.if-left-eq0.false (items_by c.requires.visits.0 c.in-Nats.is refl) refl)
     c.put-in-Nats.ensures
-
-pub lay-shape_of-out-in-Pool : goal.lay-shape_of-out-in-Pool
-unfolding rules
-lay-shape_of-out-in-Pool t c =
-    c.put-in-Pool.ensures.long
 
 pub lay-returns-in-Pool : goal.lay-returns-in-Pool
 unfolding rules
@@ -209,21 +96,11 @@ lay-returns-in-Pool t c =
     items_by v k (pool_at _ _ _ _ (checked_by (visited v) k pool_in).1 (below_by v k) c.step.ensures))
     (raised_none c.requires.visits.1 c.in-Pool.is refl)) c.put-in-Pool.ensures
 
-pub lay-shape_of-out-in-Shift : goal.lay-shape_of-out-in-Shift
-unfolding rules
-lay-shape_of-out-in-Shift t c =
-    c.lay.ensures.long
-
 pub lay-returns-in-Shift : goal.lay-returns-in-Shift
 unfolding rules
 lay-returns-in-Shift t c =
     laid_by (walk_pass _ _ _ _ c.if-left-eq0.false (items_by c.requires.visits.0 c.in-Shift.is refl) refl)
     c.lay.ensures
-
-pub lay-shape_of-out-in-Or : goal.lay-shape_of-out-in-Or
-unfolding rules
-lay-shape_of-out-in-Or t c =
-    c.tagged.ensures.long
 
 pub lay-returns-in-Or : goal.lay-returns-in-Or
 unfolding rules
@@ -232,22 +109,12 @@ lay-returns-in-Or t c =
     (walk_tag _ _ _ _ c.if-left-eq0.false (items_by c.requires.visits.0 c.in-Or.is c.step-in-Or.ensures)
     (raised_none c.requires.visits.1 c.in-Or.is refl)) c.tagged.ensures
 
-pub lay-shape_of-out-in-Cons : goal.lay-shape_of-out-in-Cons
-unfolding rules
-lay-shape_of-out-in-Cons t c =
-    c.both.ensures.long
-
 pub lay-returns-in-Cons : goal.lay-returns-in-Cons
 unfolding rules
 lay-returns-in-Cons t c =
     laid_by
     (walk_two _ _ _ _ c.if-left-eq0.false (items_by c.requires.visits.0 c.in-Cons.is c.step-in-Cons.ensures)
     (raised_none c.requires.visits.1 c.in-Cons.is refl)) c.both.ensures
-
-pub lay-shape_of-out-in-Dep : goal.lay-shape_of-out-in-Dep
-unfolding rules
-lay-shape_of-out-in-Dep t c =
-    c.both-in-Dep.ensures.long
 
 pub lay-returns-in-Dep : goal.lay-returns-in-Dep
 unfolding rules
@@ -256,11 +123,6 @@ lay-returns-in-Dep t c =
     (walk_two _ _ _ _ c.if-left-eq0.false (dep_items c.requires.visits.0 c.in-Dep.is (c.step-in-Dep.ensures endless))
     (raised_none c.requires.visits.1 c.in-Dep.is refl)) c.both-in-Dep.ensures
 
-pub lay-shape_of-out-in-Except : goal.lay-shape_of-out-in-Except
-unfolding rules
-lay-shape_of-out-in-Except t c =
-    c.lay-in-Except.ensures.long
-
 pub lay-returns-in-Except : goal.lay-returns-in-Except
 unfolding rules
 lay-returns-in-Except t c =
@@ -268,21 +130,11 @@ lay-returns-in-Except t c =
     (walk_same _ _ _ _ c.if-left-eq0.false (items_by c.requires.visits.0 c.in-Except.is (part_at c.split.ensures))
     (raised_none c.requires.visits.1 c.in-Except.is refl)) c.lay-in-Except.ensures
 
-pub lay-shape_of-out-in-Fix : goal.lay-shape_of-out-in-Fix
-unfolding rules
-lay-shape_of-out-in-Fix t c =
-    c.lay-in-Fix.ensures.long
-
 pub lay-returns-in-Fix : goal.lay-returns-in-Fix
 unfolding rules
 lay-returns-in-Fix t c =
     laid_by (walk_same _ _ _ _ c.if-left-eq0.false (items_by c.requires.visits.0 c.in-Fix.is refl)
     (raised_none c.requires.visits.1 c.in-Fix.is refl)) c.lay-in-Fix.ensures
-
-pub lay-shape_of-out-in-Again : goal.lay-shape_of-out-in-Again
-unfolding rules
-lay-shape_of-out-in-Again t c =
-    c.lay-in-Again.ensures.long
 
 pub lay-returns-in-Again : goal.lay-returns-in-Again
 unfolding rules
@@ -295,43 +147,22 @@ unfolding rules
 tagged-returns-then-out-eq0 t c =
     rw c.stopped.ensures (laid_none _ _ c.if-out-eq0.true)
 
-pub tagged-slice_bounds-lay-count : goal.tagged-slice_bounds-lay-count
-unfolding rules
-tagged-slice_bounds-lay-count t c =
-    simp length-set (omega (arith, c.if-out-eq0.false))
-
-pub tagged-slice_bounds-lay-start : goal.tagged-slice_bounds-lay-start
-unfolding rules
-tagged-slice_bounds-lay-start t c =
-    simp length-set (omega (arith, c.if-out-eq0.false))
-
-pub tagged-slice_bounds-lay-end : goal.tagged-slice_bounds-lay-end
-unfolding rules
-tagged-slice_bounds-lay-end t c =
-    simp length-set (omega (arith, c.if-out-eq0.false))
-
-pub tagged-lay-requires : goal.tagged-lay-requires
-unfolding rules
-tagged-lay-requires t c = (
-  omega (arith, c.decreases),
-  (
-    (c.requires.visits, raised_zero _ _),
-    (
-      c.requires.left_bound.0,
-      omega (arith, c.requires.left_bound.1),
-      c.requires.left_bound.1,
-      lent_set c.args.s.tag
-          c.args.out.now c.requires.left_bound.2,
-    ),
-  ),
-)
-
-pub tagged-shape_of-out : goal.tagged-shape_of-out
-unfolding rules
-tagged-shape_of-out t c =
-    (laid_tag _ _ c.if-out-eq0.false c.requires.left_bound.2 c.lay.ensures refl).long
-
 pub tagged-returns : goal.tagged-returns
 unfolding rules
 tagged-returns t c =
     laid_tag _ _ c.if-out-eq0.false c.requires.left_bound.2 c.lay.ensures refl
+
+pub lay-step-requires-in-Cons-clause-nonzero : goal.lay-step-requires-in-Cons-clause-nonzero
+unfolding rules
+lay-step-requires-in-Cons-clause-nonzero t c =
+    let v = visited c.requires.visits.0 in two_some v (parts_by v c.in-Cons.is)
+
+pub lay-step-requires-in-Dep-clause-dep_in : goal.lay-step-requires-in-Dep-clause-dep_in
+unfolding rules
+lay-step-requires-in-Dep-clause-dep_in t c =
+    let v = c.requires.visits.0 in ((choosing (visited v) c.in-Dep.is).words, v.walks.slight)
+
+pub lay-step-requires-in-Dep-clause-n_bound : goal.lay-step-requires-in-Dep-clause-n_bound
+unfolding rules
+lay-step-requires-in-Dep-clause-n_bound t c =
+    dep_low c.requires.visits.0 c.in-Dep.is

@@ -4,16 +4,11 @@ use Rattle.walk.proofs.Rooms.{tallied_deep, tallied_full, tallied_cell, left_wit
 use Rattle.walk.proofs.Visit.{walk_deep, walk_cell, walk_pass, walk_tag, walk_two, visited, next_by}
 use Rattle.numbers.specs.Size.{endless}
 use Rattle.grammar.proofs.laws.{rules}
-use Rattle.walk.proofs.Nodes.{items_by, parts_by, part_at, two_in, two_some}
+use Rattle.walk.proofs.Nodes.{items_by, parts_by, part_at, two_some}
 use Rattle.walk.proofs.Choosing.{choosing, dep_items, dep_low}
 use Rattle.laying.proofs.Lays.{both_stop}
 use Rattle.laying.proofs.Calls.{tally_by, tally_any, tally_up, tally_part, to_tagged, to_both}
 use Rattle.laying.proofs.tally.+both_tagged_tally.Goals as goal
-
-pub both-tally-requires : goal.both-tally-requires
-unfolding rules
-both-tally-requires t c =
-    (omega (arith, c.decreases), (c.requires.visits_two.0, (c.requires.left_bound.0, c.requires.left_bound.2, c.requires.left_bound.3)))
 
 pub both-tally-requires-in-Ok : goal.both-tally-requires-in-Ok
 unfolding rules
@@ -37,11 +32,6 @@ unfolding rules
 tagged-returns-then-room-eq0 t c =
     c.stopped.ensures ∙ tallied_full _ _ _ c.if-room-eq0.true
 
-pub tagged-tally-requires : goal.tagged-tally-requires
-unfolding rules
-tagged-tally-requires t c =
-    (omega (arith, c.decreases), (c.requires.visits, (c.requires.left_bound.0, c.requires.left_bound.1, omega (arith, c.requires.left_bound.2))))
-
 pub tagged-returns : goal.tagged-returns
 unfolding rules
 tagged-returns t c =
@@ -52,31 +42,11 @@ unfolding rules
 tally-returns-then-left-eq0 t c =
     tally_by _ (walk_deep _ _ _ _ c.if-left-eq0.true) (c.stopped.ensures ∙ tallied_deep _)
 
-pub tally-one-requires : goal.tally-one-requires
-unfolding rules
-tally-one-requires t c =
-    c.requires.left_bound.2
-
-pub tally-one-requires-in-Nats : goal.tally-one-requires-in-Nats
-unfolding rules
-tally-one-requires-in-Nats t c =
-    c.requires.left_bound.2
-
-pub tally-one-requires-in-Pool : goal.tally-one-requires-in-Pool
-unfolding rules
-tally-one-requires-in-Pool t c =
-    c.requires.left_bound.2
-
 pub tally-tally-requires : goal.tally-tally-requires
 unfolding rules
 tally-tally-requires t c =
     tally_part c.decreases c.if-left-eq0.false
     c.requires.left_bound (next_by c.requires.visits (items_by c.requires.visits c.in-Shift.is refl)).0
-
-pub tally-step-requires : goal.tally-step-requires
-unfolding rules
-tally-step-requires t c =
-    let v = visited c.requires.visits in two_in v (parts_by v c.in-Or.is)
 
 pub tally-tagged-requires : goal.tally-tagged-requires
 unfolding rules
@@ -85,15 +55,6 @@ tally-tagged-requires t c =
     c.if-left-eq0.false c.requires.left_bound
     (next_by c.requires.visits (items_by c.requires.visits c.in-Or.is c.step.ensures)).0
 
-pub tally-step-requires-in-Cons : goal.tally-step-requires-in-Cons
-unfolding rules
-tally-step-requires-in-Cons t c =
-    let v = visited c.requires.visits in let l = parts_by v c.in-Cons.is
-    in record {
-      a_in_bounds = two_in v l;
-      nonzero = two_some v l;
-    }
-
 pub tally-both-requires : goal.tally-both-requires
 unfolding rules
 tally-both-requires t c =
@@ -101,28 +62,11 @@ tally-both-requires t c =
     (items_by c.requires.visits c.in-Cons.is c.step-in-Cons.ensures) in
     to_both c.decreases c.if-left-eq0.false c.requires.left_bound n.0 n.1.0
 
-pub tally-step-requires-in-Dep : goal.tally-step-requires-in-Dep
-unfolding rules
-tally-step-requires-in-Dep t c =
-    record {
-      dep_in = (
-        (choosing (visited c.requires.visits)
-            c.in-Dep.is).words,
-        c.requires.visits.walks.slight,
-      );
-      n_bound = dep_low c.requires.visits c.in-Dep.is;
-    }
-
 pub tally-both-requires-in-Dep : goal.tally-both-requires-in-Dep
 unfolding rules
 tally-both-requires-in-Dep t c =
     let n = next_by c.requires.visits (dep_items c.requires.visits c.in-Dep.is (c.step-in-Dep.ensures endless)) in
     to_both c.decreases c.if-left-eq0.false c.requires.left_bound n.0 n.1.0
-
-pub tally-split-requires : goal.tally-split-requires
-unfolding rules
-tally-split-requires t c =
-    omega (arith, c.requires.left_bound.0)
 
 pub tally-tally-requires-in-Except : goal.tally-tally-requires-in-Except
 unfolding rules
@@ -205,3 +149,18 @@ unfolding rules
 tally-returns-in-Again t c =
     tally_by _
     (walk_pass _ _ _ _ c.if-left-eq0.false (items_by c.requires.visits c.in-Again.is refl) refl) c.tally-in-Again.ensures
+
+pub tally-step-requires-in-Cons-clause-nonzero : goal.tally-step-requires-in-Cons-clause-nonzero
+unfolding rules
+tally-step-requires-in-Cons-clause-nonzero t c =
+    let v = visited c.requires.visits in two_some v (parts_by v c.in-Cons.is)
+
+pub tally-step-requires-in-Dep-clause-dep_in : goal.tally-step-requires-in-Dep-clause-dep_in
+unfolding rules
+tally-step-requires-in-Dep-clause-dep_in t c =
+    let v = c.requires.visits in ((choosing (visited v) c.in-Dep.is).words, v.walks.slight)
+
+pub tally-step-requires-in-Dep-clause-n_bound : goal.tally-step-requires-in-Dep-clause-n_bound
+unfolding rules
+tally-step-requires-in-Dep-clause-n_bound t c =
+    dep_low c.requires.visits c.in-Dep.is

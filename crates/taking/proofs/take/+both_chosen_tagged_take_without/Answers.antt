@@ -3,7 +3,6 @@ use native.Mathlib.Nat.{add-zero}
 use native.Mathlib.Omega.{arith}
 use Rattle.walk.specs.Plan.{Reading}
 use Rattle.grammar.proofs.laws.{rules}
-use Rattle.grammar.proofs.laws.Below.{below_most}
 use Rattle.grammar.proofs.laws.Pool.{pool_in}
 use Rattle.grammar.proofs.laws.Shift.{shift_small}
 use Rattle.grammar.proofs.laws.Except.{except_small}
@@ -24,40 +23,6 @@ pub take-returns-then-left-eq0 : goal.take-returns-then-left-eq0
 unfolding rules
 take-returns-then-left-eq0 t c =
     rw c.of.ensures (deep_taken _ _ _ c.if-left-eq0.true)
-
-pub take-counted-requires : goal.take-counted-requires
-unfolding rules
-take-counted-requires t c = (
-  checked_by c.requires.reading c.in-Below.is below_most,
-  c.requires.roomy.2,
-  c.requires.roomy.3,
-)
-
-pub take-any-requires : goal.take-any-requires
-unfolding rules
-take-any-requires t c =
-    (c.requires.roomy.2, c.requires.roomy.3)
-
-pub take-listed-requires : goal.take-listed-requires
-unfolding rules
-take-listed-requires t c =
-    record {
-      b_bound = (
-        (checked_by c.requires.reading c.in-Pool.is pool_in).0,
-        (checked_by c.requires.reading c.in-Pool.is pool_in).1,
-        c.requires.reading.walks.slight,
-      );
-      at_in_bounds = (c.requires.roomy.2, c.requires.roomy.3);
-    }
-
-pub take-overflow_add-off : goal.take-overflow_add-off
-unfolding rules
-take-overflow_add-off t c =
-    omega (
-      arith,
-      c.requires.roomy.1,
-      checked_by c.requires.reading c.in-Shift.is shift_small,
-    )
 
 pub take-take-requires : goal.take-take-requires
 unfolding rules
@@ -318,3 +283,8 @@ unfolding rules
 without-returns-then-m-b t c =
     let m = read_some c.take.ensures c.in_ok-m.ensures c.in-Some.is in
     except_unfit _ _ _ _ _ _ m.0 m.1 c.if-m-b.true
+
+pub take-listed-requires-clause-b_bound : goal.take-listed-requires-clause-b_bound
+unfolding rules
+take-listed-requires-clause-b_bound t c =
+    let in_pool = checked_by c.requires.reading c.in-Pool.is pool_in in (in_pool.0, in_pool.1, c.requires.reading.walks.slight)
