@@ -46,6 +46,8 @@ module _ {plan : List Entry} {ws : List ℕ} {sum j : ℕ} (f : (i : ℕ) → i 
   unfolding total
   summing_end l = sym (s.is ∙ rw (drop_of_length-le ws {i = j} l, add-zero sum))
 
+pub ruleset summings = (summing_none, summing_more, summing_fits, summing_end)
+
 -- ---- the seconds before x
 counts_take : (z : ℕ → Size) (cs : List ℕ) (x : ℕ) → take x (counts z cs) ≡ counts z (take x cs)
 counts_take z cs zero = refl

@@ -1,9 +1,10 @@
 -- The words of a run, as the library's methods go through them.
---   any_has, position_placed   what its `contains` and `position` say
+--   position_placed   what its `position` says
+--   Among       x is among the words before i, as `seen` says, or from there on
 --   Differing   the words up to i differ from all that come after them
 -- Assumes nothing.
-use mathlib.Core.Path.{◌≡◌, refl, ◌∙◌}
-use mathlib.Core.Bool.{Bool, cond, true, false, not, ◌&&◌, ◌||◌}
+use mathlib.Core.Path.{◌≡◌, refl, sym, ◌∙◌}
+use mathlib.Core.Bool.{Bool, cond, true, false, not, ◌&&◌, ◌||◌, or-false}
 use mathlib.Core.List.{List, [], ◌∷◌}
 use Prim.Native.Nat.{ℕ, suc, ◌+◌, ◌-◌, ◌≤◌, ◌<◌}
 use native.Mathlib.Numerals.{add-one}
@@ -13,7 +14,7 @@ use lib.Dec.{eqb}
 use lib.ListN.{length, get_or, take, drop, length-drop, drop_of_length-le}
 use lib.Seq.{drop-cons, take_all}
 use Rattle.std.specs.Prelude.{Some, None, position}
-use Rattle.std.specs.List.{list_any, position_from}
+use Rattle.std.specs.List.{position_from}
 use Rattle.std.proofs.lemmas.Iterator.Adapters.{position_from-zero}
 use Rattle.lists.specs.Lists.{has}
 use Rattle.numbers.specs.Pick.{pick}
@@ -25,11 +26,6 @@ eqb_swap : (m n : ℕ) → eqb m n ≡ eqb n m
 eqb_swap m n = grind (arith, nat_tests)
 
 -- ---- the library's methods
-pub any_has : (x : ℕ) (ws : List ℕ) → list_any (λ w. eqb w x) ws ≡ has x ws
-unfolding has
-any_has x [] = refl
-any_has x (w ∷ ws) = rw (any_has x ws, eqb_swap w x)
-
 position_at : (c k : ℕ) (ws : List ℕ) → position_from (λ w. eqb w c) k ws ≡ pick (has c ws) (Some (k + place_of c ws)) None
 unfolding has place_of
 position_at c k [] = refl
@@ -45,6 +41,26 @@ position_placed c ws =
     let e : 0 + place_of c ws ≡ place_of c ws = omega arith in
     position_from-zero (λ w. eqb w c) ws ∙ rw e at (position_at c 0 ws)
 
+-- ---- x is among the words before i, as `seen` says, or from there on
+pub record Among (ws : List ℕ) (x : ℕ) (seen : Bool) (i : ℕ) : Type 0 where
+  pub is : has x ws ≡ (seen || has x (drop i ws))
+
+pub among_none : {ws : List ℕ} {x : ℕ} → Among ws x false 0
+among_none = record { is = refl }
+
+module _ {ws : List ℕ} {x : ℕ} {seen : Bool} {i : ℕ} (a : Among ws x seen i) where
+  pub among_more : i < length ws → Among ws x (seen || eqb (get_or ws i 0) x) (i + 1)
+  unfolding has
+  among_more l = record { is = a.is ∙ rw (drop-cons ws i 0 l, add-one, eqb_swap (get_or ws i 0) x) (sym (assoc seen (eqb x (get_or ws i 0)) _)) }
+    where
+      assoc : (a b c : Bool) → ((a || b) || c) ≡ (a || (b || c))
+      assoc true b c = refl
+      assoc false b c = refl
+
+  pub among_end : length ws ≤ i → seen ≡ has x ws
+  unfolding has
+  among_end l = sym (a.is ∙ rw (drop_of_length-le ws {i = i} l, or-false seen))
+
 -- ---- the words up to i differ from all that come after them
 pub record Differing (ws : List ℕ) (i : ℕ) : Type 0 where
   pub le : i ≤ length ws
@@ -54,9 +70,9 @@ pub differ_none : {ws : List ℕ} → Differing ws 0
 differ_none = record { le = omega arith; is = refl }
 
 module _ {ws : List ℕ} {i : ℕ} (s : Differing ws i) where
-  module _ (l : i < length ws) {q : Bool} (e : q ≡ list_any (λ w. eqb w (get_or ws i 0)) (take (length ws - (i + 1)) (drop (i + 1) ws))) where
+  module _ (l : i < length ws) {q : Bool} (e : q ≡ has (get_or ws i 0) (take (length ws - (i + 1)) (drop (i + 1) ws))) where
     again : q ≡ has (get_or ws i 0) (drop (i + 1) ws)
-    again = e ∙ any_has (get_or ws i 0) _ ∙ rw (take_all (length ws - (i + 1)) (drop (i + 1) ws) (omega (arith, length-drop (i + 1) ws)))
+    again = e ∙ rw (take_all (length ws - (i + 1)) (drop (i + 1) ws) (omega (arith, length-drop (i + 1) ws)))
 
     step : different (drop i ws) ≡ (not q && different (drop (i + 1) ws))
     unfolding different
@@ -71,3 +87,7 @@ module _ {ws : List ℕ} {i : ℕ} (s : Differing ws i) where
   pub differ_end : length ws ≤ i → true ≡ different ws
   unfolding different
   differ_end l = rw (s.is, drop_of_length-le ws {i = i} l)
+
+pub ruleset amongs = (among_none, among_more, among_end)
+
+pub ruleset differs = (differ_none, differ_hit, differ_more, differ_end)

@@ -68,6 +68,8 @@ module _ {plan : List Entry} {ws : List ℕ} {n rest k : ℕ} (f : (j : ℕ) →
       let z : 0 + k ≡ length ws = omega arith in
       sym (s.is ∙ rw (drop_of_length-le ws {i = k} l, z))
 
+pub ruleset turnings = (turning_none, turning_found, turning_more, turning_end)
+
 -- ---- the visit of a dep
 module _ {plan : List Entry} {p : List ℕ} {a b : ℕ} (d : DepIn plan p a b) where
   pub head_in : get_or p b 0 < length plan

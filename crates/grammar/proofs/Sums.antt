@@ -216,3 +216,5 @@ module _ {plan : List Entry} {n : ℕ} {ws : List ℕ} {f s i : ℕ} (r : Passin
 
       pub end_mixed : eqb f 0 ≡ false → Err UnsuitedPart ≡ coded (seconds_row n (before (size_in plan) n) ws)
       end_mixed e = let h : f ≡ 0 → ⊥ = eqb-false f 0 e in tally_mixed n r.lower whole not_all (omega arith)
+
+pub ruleset ends = (not_lower, turn_few, end_sum, end_past, end_endless, end_mixed)

@@ -1,7 +1,8 @@
 -- What a branch of the code shows of the tests in a row.
 --   tests                    one list for `search`
 --   is_endless_lem               what the test of a size says
---   endless_word, finite_word   what a word says of its size
+--   endless_word, finite_word   what a word says of its size; endless_test, one_test, below_test, few_test, few_count   as the code tests it
+--   rows                     what a row computes with
 -- Assumes nothing.
 use mathlib.Core.Path.{◌≡◌, refl, sym}
 use mathlib.Core.Bool.{Bool, true, false, ◌&&◌, and-false, false≢true}
@@ -11,7 +12,8 @@ use lib.Dec.{leb, ltb, eqb}
 use borrow.Author.Tests.{leb-true, ltb-true, lt-ltb, le-ltb, le-leb, lt-leb, eq-eqb, ne_eqb}
 use Rattle.numbers.specs.Size.{Size, finite, endless, below, size_of}
 use Rattle.numbers.proofs.size.SizeWords.{by_size, sized_finite, sized_endless}
-use Rattle.grammar.specs.Checks.{is_endless, is_one, few, count}
+use Rattle.grammar.specs.Checks.{is_endless, is_one, few, count, row}
+use Rattle.grammar.specs.Plan.{coded, weighed}
 
 -- a sum and its bound, tested by a difference
 pub room : (a b l : ℕ) → b ≤ l → a ≤ l - b → leb (a + b) l ≡ true
@@ -54,3 +56,10 @@ few_test w = by_size (λ z. few z ≡ leb w 256) w (λ l. refl) (λ l. sym (lt-l
 
 pub few_count : (w : ℕ) → leb w 256 ≡ true → count (size_of w) ≡ w
 few_count w e = by_size (λ z. count z ≡ w) w (λ l. refl) (λ l. absurd (omega (arith, leb-true w 256 e)))
+
+pub ruleset size_tests = (endless_test, one_test, below_test, few_test, few_count)
+
+-- ---- what a row computes with, opened by one name
+unfoldable pub rows : Unit {0}
+unfolding weighed coded row
+rows = tt

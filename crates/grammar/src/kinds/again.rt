@@ -11,7 +11,7 @@ use super::super::refusal::Refusal;
 use super::asks;
 use numbers::size::ENDLESS;
 
-#[tactic(auto, unfolding(crate::specs::Plan::weighed, crate::specs::Plan::coded, crate::specs::Checks::row, crate::specs::kinds::Fix::pass_rule))]
+#[tactic(auto, unfolding(crate::proofs::Tests::rows, crate::specs::kinds::Fix::pass_rule))]
 pub fn check(table: &[u64], n: usize, a: usize) -> Result<u64, Refusal>
     requires { length table.now ≡ 3 * nodes table.now }
     ensures { (p : List ℕ) (b : ℕ) (z : ℕ → Size) → result ≡ weighed again (node_with table.now p n a b) z }

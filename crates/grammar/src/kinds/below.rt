@@ -10,7 +10,7 @@ use super::super::refusal::Refusal;
 use super::asks;
 use numbers::size::LARGEST;
 
-#[tactic(auto, unfolding(crate::specs::Plan::weighed, crate::specs::Plan::coded, crate::specs::Checks::row, crate::specs::kinds::Below::below_rule))]
+#[tactic(auto, unfolding(crate::proofs::Tests::rows, crate::specs::kinds::Below::below_rule))]
 pub fn check(a: u64) -> Result<u64, Refusal>
     ensures { (t p : List ℕ) (n b : ℕ) (z : ℕ → Size) → result ≡ weighed below (node_with t p n a b) z }
 {

@@ -24,7 +24,7 @@ use numbers::size::{ENDLESS, LARGEST};
 // "its size m finite, at most 256"
 const MOST_FIRSTS: u64 = 256;
 
-#[tactic(auto, using(crate::proofs::Tests::few_test, crate::proofs::Tests::few_count), unfolding(crate::specs::Plan::weighed, crate::specs::Plan::coded, crate::specs::Checks::row, crate::specs::kinds::Dep::dep_rule))]
+#[tactic(auto, using(crate::proofs::Tests::size_tests), unfolding(crate::proofs::Tests::rows, crate::specs::kinds::Dep::dep_rule))]
 pub fn check(pool: &[u64], plan: &[Entry], n: usize, a: usize, b: usize) -> Result<u64, Refusal>
     requires { n ≤ length plan.now }
     ensures { (t : List ℕ) → result ≡ weighed dep (node_with t pool.now n a b) (size_in plan.now) }
@@ -38,7 +38,7 @@ pub fn check(pool: &[u64], plan: &[Entry], n: usize, a: usize, b: usize) -> Resu
 
 // The rest of a dep's row, in two passes over its seconds: "each of those m words a lower node" comes before "all finite or all endless",
 // and the pass over their sizes, judged after the last one, is shorter without that test.
-#[tactic(auto, using(crate::proofs::Sums::not_lower, crate::proofs::Sums::turn_few, crate::proofs::Sums::end_sum, crate::proofs::Sums::end_past, crate::proofs::Sums::end_endless, crate::proofs::Sums::end_mixed))]
+#[tactic(auto, using(crate::proofs::Sums::ends))]
 fn seconds(plan: &[Entry], n: usize, words: &[u64]) -> Result<u64, Refusal>
     requires { n ≤ length plan.now }
     ensures { result ≡ coded (seconds_row n (before (size_in plan.now) n) words.now) }
@@ -66,7 +66,7 @@ fn seconds(plan: &[Entry], n: usize, words: &[u64]) -> Result<u64, Refusal>
 }
 
 // "Seconds finite: all pairs of first 0, then of first 1, and so on."
-#[tactic(auto, using(crate::proofs::SecondsInTurn::turning_none, crate::proofs::SecondsInTurn::turning_found, crate::proofs::SecondsInTurn::turning_more, crate::proofs::SecondsInTurn::turning_end))]
+#[tactic(auto, using(crate::proofs::SecondsInTurn::turnings))]
 fn in_turn(plan: &[Entry], words: &[u64], n: u64) -> Pair
     requires inside { (i : ℕ) → i < length words.now → get_or words.now i 0 < length plan.now }
     requires finite { (i : ℕ) → i < length words.now → size_word plan.now (get_or words.now i 0) < 2 ^ 63 }
@@ -119,7 +119,7 @@ pub fn step(pool: &[u64], plan: &[Entry], a: usize, b: usize, n: u64) -> Two
 }
 
 // The sum of the sizes of a dep's seconds, of some of them: those before the one that is read.
-#[tactic(auto, using(crate::proofs::Joins::summing_none, crate::proofs::Joins::summing_more, crate::proofs::Joins::summing_fits, crate::proofs::Joins::summing_end))]
+#[tactic(auto, using(crate::proofs::Joins::summings))]
 fn sum_of(plan: &[Entry], words: &[u64]) -> u64
     requires inside { (i : ℕ) → i < length words.now → get_or words.now i 0 < length plan.now }
     requires finite { (i : ℕ) → i < length words.now → size_word plan.now (get_or words.now i 0) < 2 ^ 63 }

@@ -12,7 +12,7 @@ use super::asks;
 use numbers::size;
 use numbers::size::LARGEST;
 
-#[tactic(auto, using(crate::proofs::Tests::one_test, crate::proofs::Tests::below_test), unfolding(crate::specs::Plan::weighed, crate::specs::Plan::coded, crate::specs::Checks::row, crate::specs::kinds::Except::except_rule))]
+#[tactic(auto, using(crate::proofs::Tests::size_tests), unfolding(crate::proofs::Tests::rows, crate::specs::kinds::Except::except_rule))]
 pub fn check(plan: &[Entry], n: usize, a: usize, b: u64) -> Result<u64, Refusal>
     requires { n ≤ length plan.now }
     ensures { (t p : List ℕ) → result ≡ weighed except (node_with t p n a b) (size_in plan.now) }

@@ -9,7 +9,7 @@ use super::super::refusal::Refusal;
 use super::asks;
 use numbers::size::ENDLESS;
 
-#[tactic(auto, using(crate::proofs::Tests::endless_test), unfolding(crate::specs::Plan::weighed, crate::specs::Plan::coded, crate::specs::Checks::row, crate::specs::kinds::Fix::pass_rule))]
+#[tactic(auto, using(crate::proofs::Tests::size_tests), unfolding(crate::proofs::Tests::rows, crate::specs::kinds::Fix::pass_rule))]
 pub fn check(plan: &[Entry], n: usize, a: usize) -> Result<u64, Refusal>
     requires { n ≤ length plan.now }
     ensures { (t p : List ℕ) (b : ℕ) → result ≡ weighed fix (node_with t p n a b) (size_in plan.now) }

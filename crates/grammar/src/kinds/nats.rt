@@ -8,7 +8,7 @@ ghost use Rattle.grammar.specs.Plan.{weighed};
 use super::super::refusal::Refusal;
 use numbers::size::ENDLESS;
 
-#[tactic(auto, unfolding(crate::specs::Plan::weighed, crate::specs::Plan::coded, crate::specs::Checks::row, crate::specs::kinds::Nats::nats_rule))]
+#[tactic(auto, unfolding(crate::proofs::Tests::rows, crate::specs::kinds::Nats::nats_rule))]
 pub fn check() -> Result<u64, Refusal>
     ensures { (t p : List ℕ) (n a b : ℕ) (z : ℕ → Size) → result ≡ weighed nats (node_with t p n a b) z }
 {

@@ -17,7 +17,7 @@ use super::{Tagged, asks};
 use numbers::or::Part;
 use numbers::size;
 
-#[tactic(auto, unfolding(crate::specs::Plan::weighed, crate::specs::Plan::coded, crate::specs::Checks::row))]
+#[tactic(auto, unfolding(crate::proofs::Tests::rows))]
 pub fn check(plan: &[Entry], n: usize, a: usize, b: usize) -> Result<u64, Refusal>
     requires { n ≤ length plan.now }
     ensures { (t p : List ℕ) → result ≡ weighed or (node_with t p n a b) (size_in plan.now) }

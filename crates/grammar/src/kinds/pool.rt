@@ -14,7 +14,7 @@ use super::asks;
 // "1 <= b <= 4,096"
 const MOST_WORDS: usize = 4096;
 
-#[tactic(auto, unfolding(crate::specs::Plan::weighed, crate::specs::Plan::coded, crate::specs::Checks::row, crate::specs::kinds::Pool::pool_rule))]
+#[tactic(auto, unfolding(crate::proofs::Tests::rows, crate::specs::kinds::Pool::pool_rule))]
 pub fn check(pool: &[u64], a: usize, b: usize) -> Result<u64, Refusal>
     ensures { (t : List ℕ) (n : ℕ) (z : ℕ → Size) → result ≡ weighed pool_kind (node_with t pool.now n a b) z }
 {

@@ -23,7 +23,7 @@ fn may_shift(word: u64) -> bool
     )
 }
 
-#[tactic(auto, unfolding(crate::specs::Plan::weighed, crate::specs::Plan::coded, crate::specs::Checks::row, crate::specs::kinds::Shift::shift_rule))]
+#[tactic(auto, unfolding(crate::proofs::Tests::rows, crate::specs::kinds::Shift::shift_rule))]
 pub fn check(table: &[u64], plan: &[Entry], n: usize, a: usize, k: u64) -> Result<u64, Refusal>
     requires { (length table.now ≡ 3 * nodes table.now) × (n < nodes table.now) × (n ≤ length plan.now) }
     ensures { (p : List ℕ) → result ≡ weighed shift (node_with table.now p n a k) (size_in plan.now) }
