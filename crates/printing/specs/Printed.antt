@@ -43,4 +43,5 @@ pub record Answers (text : List ℕ) (at : ℕ) (t p : List ℕ) (i : ℕ) (old 
   pub lines : (ns : List ℕ) → numbers_from text at ≡ some ns → Puts (cases_of t p i ns) old 0 last r
 
 pub record Judges (text : List ℕ) (at : ℕ) (t p : List ℕ) (i : ℕ) (old last : List ℕ) (r : ℕ) : Type 0 where
-  pub print : (ns : List ℕ) → numbers_from text at ≡ some ns → Puts (judged (λ e. refused_line e.refusal e.node) (opening t p i) (cases_of t p i ns)) old 0 last r
+  pub print : (ns : List ℕ) → numbers_from text at ≡ some ns
+      → Puts (judged (λ e. refused_line e.refusal e.node) (opening t p i) (cases_of t p i ns)) old 0 last r
