@@ -28,6 +28,7 @@ fn lengths_fit(table: &[u64], pool: &[u64]) -> bool
     table.len() == 3 * count && 1 <= count && count <= MOST_NODES && pool.len() <= MOST_WORDS
 }
 
+// `Blank` is no type's invariant: it speaks of table and plan together, which their callers use apart.
 // "The whole check: word and pool lengths (1, node 0); then nodes rising ..; then cycles."
 pub fn prepare(table: &[u64], pool: &[u64], plan: &mut [Entry]) -> Result<(), Refused>
     requires { Blank table.now plan.old }

@@ -43,4 +43,5 @@ pub record Answers (text : List ℕ) (at : ℕ) (t p : List ℕ) (i : ℕ) (old 
   pub lines : (ns : List ℕ) → numbers_from text at ≡ Some ns → Puts (cases_of t p i ns) old last
 
 pub record Judges (text : List ℕ) (at : ℕ) (t p : List ℕ) (i : ℕ) (old last : Page) : Type 0 where
-  pub print : (ns : List ℕ) → numbers_from text at ≡ Some ns → Puts (judged (λ e. refused_line e.refusal e.node) (opening t p i) (cases_of t p i ns)) old last
+  pub print : (ns : List ℕ) → numbers_from text at ≡ Some ns
+      → Puts (judged (λ e. refused_line e.refusal e.node) (opening t p i) (cases_of t p i ns)) old last

@@ -73,7 +73,8 @@ module _ (t p : List ℕ) (a : verdict t p ≡ accepted) (i : ℕ) (l : i < node
       (cut_same t p a i l cut cut' (sym same ∙ e ∙ same')).0
 
   -- ---- 3. one cut
-  pub only_cuts : {cs old last : List ℕ} {m c : ℕ} → GotRow t p i cs old last (done m c) → (css : List (List ℕ)) × Cut g i (take m last) css × (joined css ≡ cs)
+  pub only_cuts : {cs old last : List ℕ} {m c : ℕ} → GotRow t p i cs old last (done m c)
+      → (css : List (List ℕ)) × Cut g i (take m last) css × (joined css ≡ cs)
   only_cuts h = let (css, cut, same, many, used) = cut_got t p a i l h in (css, cut, same)
 
   pub one_cut : {ns ms : List ℕ} {css dss : List (List ℕ)} → Cut g i ns css → Cut g i ms dss → joined css ≡ joined dss → (ns ≡ ms) × (css ≡ dss)

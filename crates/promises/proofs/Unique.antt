@@ -42,7 +42,8 @@ module _ (t p : List ℕ) (i : ℕ) where
   pub one_reading : (cs : List ℕ) {r r' : Found} → read_of r ≡ read_says t p i cs → read_of r' ≡ read_says t p i cs → r ≡ r'
   one_reading cs {r} {r'} e f = found_one r r' (e ∙ sym f)
 
-  pub one_row_writing : {ns old last last' : List ℕ} {r r' : Outcome} → WroteRow t p i ns old last r → WroteRow t p i ns old last' r' → (r ≡ r') × (last ≡ last')
+  pub one_row_writing : {ns old last last' : List ℕ} {r r' : Outcome} → WroteRow t p i ns old last r → WroteRow t p i ns old last' r'
+      → (r ≡ r') × (last ≡ last')
   one_row_writing {ns} {old} h k =
       let same = wrote_row_is h ∙ sym (wrote_row_is k) in
       (same, h.holds ∙ ap (λ (x : Outcome). leaves x (row_of (rules_of t p) i ns) old) same ∙ sym k.holds)

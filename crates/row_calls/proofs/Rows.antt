@@ -31,7 +31,8 @@ module _ (old words : List ℕ) {filled last : List ℕ} {r says : Outcome} (sta
   prints g = record { puts = rw (← is) g; buffer = rw (← is, ← start) holds }
 
   pub row_done : {d : Row} {size : ℕ} → r ≡ Ok d → size ≡ length words → take size last ≡ words
-      → Puts (items_text d.items ++ (cells_text d.cells (take size last) ++ end_text last size)) page page' → PrintsRow words says old last page page'
+      → Puts (items_text d.items ++ (cells_text d.cells (take size last) ++ end_text last size)) page page'
+      → PrintsRow words says old last page page'
   unfolding row_text
   row_done e n same g = prints (told (rw (e, same, end_done (length old) words filled n (holds ∙ ap (λ (x : Outcome). leaves x words filled) e) start)) g)
 

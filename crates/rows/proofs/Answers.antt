@@ -27,8 +27,8 @@ use Rattle.rows.proofs.CountedRows.{row_size, row_cells, got_numbers}
 use Rattle.rows.proofs.Values.{wrote_row_is, got_row_is}
 
 -- an answer and its words, said by equals
-pub said_by : {w : Outcome} (last : List ℕ) {xs ys : List ℕ} {m m' c c' : ℕ} → (w ≡ done m' c') × (take c' last ≡ xs) → m' ≡ m → c' ≡ c → xs ≡ ys → (w ≡ done m c)
-    × (take c last ≡ ys)
+pub said_by : {w : Outcome} (last : List ℕ) {xs ys : List ℕ} {m m' c c' : ℕ} → (w ≡ done m' c') × (take c' last ≡ xs) → m' ≡ m → c' ≡ c → xs ≡ ys
+    → (w ≡ done m c) × (take c last ≡ ys)
 said_by last h e f s = (h.0 ∙ cc (e, f), ap (λ (k : ℕ). take k last) (sym f) ∙ h.1 ∙ s)
 
 module _ (t p : List ℕ) (a : verdict t p ≡ accepted) (i : ℕ) (l : i < nodes t) where

@@ -1,8 +1,8 @@
 -- What the code of the row calls has found, in the words of their promises.
 --   row_refused, got_refused, next_refused   the table or the start is refused
---   items_not_written, items_written, row_done   `write_row`
+--   items_written, row_done   `write_row`
 --   got_items                                `read_row`
---   next_is, next_end, next_item, next_forward, next_within, next_not   the reader
+--   next_is, next_end, next_item, next_not   the reader
 -- Assumes nothing.
 use mathlib.Core.Path.{◌≡◌, refl, sym, ap, ◌∙◌}
 use mathlib.Core.List.{List, [], ◌∷◌}
@@ -21,13 +21,11 @@ use Rattle.checked.specs.Opened.{Place, rules, Stands}
 use Rattle.checked.specs.Item.{front, Stood}
 use Rattle.checked.specs.declared.item.Item.{Item}
 use Rattle.checked.proofs.Standing.{stood}
-use Rattle.rows.proofs.Outcomes.{hands_same}
 use Rattle.rows.specs.Row.{Outcome, at_first, row_answer}
 use Rattle.rows.specs.WriteRow.{in_turn, RowOver, WroteItems, writes_row, WroteRow, write_row_says}
 use Rattle.rows.specs.ReadRow.{reads_row, GotItems, GotRow, read_row_says}
-use Rattle.rows.specs.Reader.{Reply, hands, at_end, handed, next, next_of, Within}
+use Rattle.rows.specs.Reader.{Reply, hands, at_end, handed, next, next_of}
 use Rattle.rows.specs.declared.answer.Row.{Row}
-use Rattle.rows.specs.declared.answer.RowRefused.{RowRefused}
 
 -- ---- the table or the start is refused
 module _ (t p : List ℕ) (i : ℕ) {e : Refused} (h : opening t p i ≡ Err e) where
@@ -45,9 +43,6 @@ module _ (t p : List ℕ) (i : ℕ) {e : Refused} (h : opening t p i ≡ Err e) 
 
 -- ---- the items of a row that is written: the second pass answers as the first
 module _ {g : ℕ → Rule} {i : ℕ} (ns old : List ℕ) {r : Outcome} (e : r ≡ in_turn g i (length old) ns) where
-  pub items_not_written : {x : RowRefused} → r ≡ Err x → WroteItems g i ns old old (Err x)
-  items_not_written q = record { is = sym q ∙ e; holds = refl }
-
   pub items_written : {d : Row} → r ≡ Ok d → {last : List ℕ} {x : Outcome} → RowOver g i ns old last x → WroteItems g i ns old last x
   items_written {d} q {x = x} f =
       let s : x ≡ Ok d = f.is ∙ sym e ∙ q in
@@ -89,12 +84,6 @@ module _ (g : ℕ → Rule) (i : ℕ) (row : List ℕ) (at : ℕ) where
         let (e, lo, hi) = stood w q in
         let s : length (drop at row) - length (drop d.next row) ≡ d.next - at = omega (arith, length-drop at row, length-drop d.next row) in
         sym (is_handed ∙ rw (e, s))
-
-    pub next_forward : {d : Item} → r ≡ Ok d → at ≤ d.next
-    next_forward q = let (e, lo, hi) = stood w q in omega arith
-
-    pub next_within : {d : Item} → r ≡ Ok d → Within at (hands d.number (d.next - at)) row
-    next_within q n s = let (e, lo, hi) = stood w q in omega (arith, hands_same s)
 
     pub next_not : {x : Refusal} → r ≡ Err x → refused x 0 ≡ next g i (drop at row)
     next_not q = sym (is_handed ∙ rw (stood w q))

@@ -1,7 +1,7 @@
 -- The items of a row that is read, in turn.
 --   Storing      a row's answer is that of its rest, so many numbers later, and those stand over the buffer's front, as far as that goes
 --   answered_all, answered_stopped, gathered_size   what was gathered, by the answer
---   items_not, items_kept, items_again   `read_items`: refused; done, and what was kept is stored, or it is gathered again
+--   items_kept               `read_over`: what was kept is stored
 --   items_few               no more numbers than the buffer has room for
 -- Assumes nothing.
 use mathlib.Core.Path.{◌≡◌, refl, sym, ap, ◌∙◌}
@@ -169,9 +169,6 @@ gathered_size g i room cs used e =
 
 -- ---- the items: decided over a buffer of the call's own
 module _ {g : ℕ → Rule} {i : ℕ} {cs first kept : List ℕ} {r : Outcome} (old : List ℕ) (w : NumbersOver g i (length old) cs first kept r) where
-  pub items_not : {x : RowRefused} → r ≡ Err x → GotItems g i cs old old (Err x)
-  items_not q = record { is = sym q ∙ w.is; holds = refl }
-
   module _ {d : Row} (q : r ≡ Ok d) where
     many : (d.items ≡ length (gotten (gather g i (length old) cs))) × (d.items ≤ length old)
     many = gathered_size g i (length old) cs (length cs) (sym w.is ∙ q)
@@ -182,9 +179,6 @@ module _ {g : ℕ → Rule} {i : ℕ} {cs first kept : List ℕ} {r : Outcome} (
     pub items_kept : d.items ≤ length kept → {last : List ℕ} → last ≡ over (take d.items kept) old → GotItems g i cs old last (Ok d)
     items_kept l e = record {
       is = sym q ∙ w.is;
-      holds = e ∙ ap (λ (xs : List ℕ). over xs old) (counted (gotten (gather g i (length old) cs)) first (w.holds d.items d.cells q) many.0 (omega (arith, w.long)));
+      holds = e
+          ∙ ap (λ (xs : List ℕ). over xs old) (counted (gotten (gather g i (length old) cs)) first (w.holds d.items d.cells q) many.0 (omega (arith, w.long)));
     }
-
-    -- what is gathered again is the same
-    pub items_again : {last : List ℕ} {x : Outcome} → NumbersOver g i (length old) cs old last x → GotItems g i cs old last x
-    items_again {x = x} v = let s : x ≡ Ok d = v.is ∙ sym w.is ∙ q in rw s (record { is = sym s ∙ v.is; holds = v.holds d.items d.cells s })

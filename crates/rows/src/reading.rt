@@ -35,6 +35,7 @@ fn gather_row(
 {
     let mut at: usize = 0;
     let mut items: usize = 0;
+    // How many items there are shows only as their cells are read, so no iterator goes over them.
     while at < cells.len() {
         let item = at_item(opened.item(cells, at), items)?;
         if room <= items {

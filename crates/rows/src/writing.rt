@@ -21,7 +21,8 @@ fn decide_row(opened: &Opened, numbers: &[u64], room: usize) -> Result<Row, RowR
     })
 }
 
-// The second pass writes each case into what the ones before it leave of the buffer.
+// The second pass writes each case into what the ones before it leave of the buffer. It has a loop of its
+// own: of cells that a closure of a common loop captures, nothing would be known at the end.
 fn lay_row(opened: &Opened, numbers: &[u64], cells: &mut [u64]) -> Result<Row, RowRefused>
     ensures { RowOver (rules opened.now) opened.now.start numbers.now cells.old cells.new result }
 {

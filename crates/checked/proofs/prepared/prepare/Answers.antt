@@ -8,10 +8,6 @@ pub returns-then-not-lengths_fit : goal.returns-then-not-lengths_fit
 returns-then-not-lengths_fit c =
     search (prepared_length, rules)
 
-pub weigh_all-requires : goal.weigh_all-requires
-weigh_all-requires c =
-    let l = lengths_are c.args.table.now c.args.pool.now c.if-not-lengths_fit.ensures in record { table_len = l.0; plan_value = (c.requires.clear, c.requires.long l.2) }
-
 pub returns-in_err-weigh_all : goal.returns-in_err-weigh_all
 returns-in_err-weigh_all c =
     search (prepared_fault, lengths_are, rules)

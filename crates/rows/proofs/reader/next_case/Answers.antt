@@ -1,16 +1,12 @@
 -- `rows::reader::next_case` ends at the row's end, and else reads one case.
 -- Assumes nothing.
 use Rattle.std.proofs.lemmas.Result.{err_from_is_err_and}
-use Rattle.rows.proofs.Calls.{next_end, next_item, next_forward, next_within, next_not}
+use Rattle.rows.proofs.Calls.{next_end, next_item, next_not}
 use Rattle.rows.proofs.reader.next_case.Goals as goal
 
 pub returns-then-row-at-clause-is : goal.returns-then-row-at-clause-is
 returns-then-row-at-clause-is c =
     next_end _ _ _ _ c.if-row-at.true
-
-pub overflow_sub-result : goal.overflow_sub-result
-overflow_sub-result c =
-    next_forward _ _ _ _ c.if-row-at.false c.item.ensures c.in_ok-item.was
 
 pub returns-in_err-item-clause-is : goal.returns-in_err-item-clause-is
 returns-in_err-item-clause-is c =
@@ -20,7 +16,3 @@ returns-in_err-item-clause-is c =
 pub returns-clause-is : goal.returns-clause-is
 returns-clause-is c =
     next_item _ _ _ _ c.if-row-at.false c.item.ensures c.in_ok-item.was
-
-pub returns-clause-within : goal.returns-clause-within
-returns-clause-within c =
-    next_within _ _ _ _ c.if-row-at.false c.item.ensures c.in_ok-item.was

@@ -1,6 +1,4 @@
-use native.Mathlib.Omega.{arith}
 use Rattle.std.proofs.lemmas.Result.{err_from_is_err_and}
-use Rattle.checked.proofs.Standing.{stood}
 use Rattle.rows.proofs.Outcomes.{found_ok}
 use Rattle.rows.proofs.Gathering.{storing_none, storing_more, storing_full, storing_stops, storing_done}
 use Rattle.rows.proofs.reading.gather_row.Goals as goal
@@ -13,10 +11,6 @@ pub returns-then-room-items : goal.returns-then-room-items
 returns-then-room-items c =
     let stands = found_ok _ _ c.at_item.ensures c.in_ok-item.was in
     rw c.at_item-then-room-items.ensures (storing_full _ _ c.loop-at.invariant c.loop-at-test.true c.item.ensures stands c.if-room-items.true)
-
-pub loop-at-smaller : goal.loop-at-smaller
-loop-at-smaller c =
-    let s = stood c.item.ensures (found_ok _ _ c.at_item.ensures c.in_ok-item.was) in omega arith
 
 pub loop-at-preserved : goal.loop-at-preserved
 loop-at-preserved c =

@@ -3,16 +3,8 @@ use native.Mathlib.Omega.{arith}
 use Rattle.std.specs.Prelude.{Ok}
 use Rattle.std.proofs.lemmas.Result.{err_from_is_err_and}
 use Rattle.rows.proofs.Outcomes.{found_ok}
-use Rattle.rows.proofs.WrittenInTurn.{tallying_none, tallying_fits, tallying_more, tallying_stops, tallying_all}
+use Rattle.rows.proofs.WrittenInTurn.{tallying_fits, tallying_more, tallying_stops, tallying_all}
 use Rattle.rows.proofs.writing.decide_row.Goals as goal
-
-pub loop-item-init : goal.loop-item-init
-loop-item-init c =
-    tallying_none _ _ _ _
-
-pub overflow_sub-room : goal.overflow_sub-room
-overflow_sub-room c =
-    c.loop-item.invariant.fits
 
 pub overflow_add-taken : goal.overflow_add-taken
 overflow_add-taken c =

@@ -3,24 +3,12 @@ use native.Mathlib.Omega.{arith}
 use Rattle.std.specs.Prelude.{Ok}
 use Rattle.std.proofs.lemmas.Result.{err_from_is_err_and}
 use Rattle.rows.proofs.Outcomes.{found_ok}
-use Rattle.rows.proofs.WrittenInTurn.{laying_none, laying_long, laying_within, laying_fits, laying_more, laying_stops, laying_all}
+use Rattle.rows.proofs.WrittenInTurn.{laying_none, laying_long, laying_fits, laying_more, laying_stops, laying_all}
 use Rattle.rows.proofs.writing.lay_row.Goals as goal
 
 pub loop-item-init : goal.loop-item-init
 loop-item-init c =
     laying_none _ _ _ _
-
-pub offset_bounds-cells-used : goal.offset_bounds-cells-used
-offset_bounds-cells-used c =
-    omega (arith, laying_within _ _ c.loop-item.invariant, laying_long _ _ c.loop-item.invariant)
-
-pub slice_bounds-fits-count : goal.slice_bounds-fits-count
-slice_bounds-fits-count c =
-    search (laying_within)
-
-pub slice_bounds-fits-start : goal.slice_bounds-fits-start
-slice_bounds-fits-start c =
-    search (laying_within)
 
 pub overflow_add-used : goal.overflow_add-used
 overflow_add-used c =

@@ -15,7 +15,8 @@ fit_of-requires c =
 
 pub returns-then-asked : goal.returns-then-asked
 returns-then-asked c =
-    rw (← c.self.view_is) (decided_walk c.self.invariant _ c.asked.ensures c.if-asked.true _ c.tally-rest.result c.room_for-most.ensures c.fit_of.ensures c.tally-rest.ensures)
+    rw (← c.self.view_is) (decided_walk c.self.invariant _ c.asked.ensures c.if-asked.true _ c.tally-rest.result c.room_for-most.ensures
+    c.fit_of.ensures c.tally-rest.ensures)
 
 pub returns : goal.returns
 returns c =
