@@ -19,6 +19,7 @@ pub fn fill(buffer: &mut [u64])
 pub fn changed_from(buffer: &[u64], from: usize) -> bool
     ensures { result ≡ changed from (drop from buffer.now) }
 {
+    // By index: tried as a chain of `skip` and `any`, whose promise can only be that chain again, and not `changed`.
     for i in from..buffer.len() {
         if buffer[i] != start_word(i) {
             return true;

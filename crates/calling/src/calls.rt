@@ -19,7 +19,7 @@ pub struct Words {
     pub buffer: [u64; MOST_ROOM],
 }
 
-// The calls on one case.
+// The calls on one case, a test for each in the order of `calls`: a `match` on the words says no more.
 pub fn case_call(about: &About<'_>, word: &[u8], rest: &[u8], lent: &mut Words, page: &mut Page)
     ensures { Puts (chosen word.now (calls about.now.table.now about.now.pool.now rest.now))
         page.old page.new }

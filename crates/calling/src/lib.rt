@@ -50,7 +50,7 @@ pub fn print_all(text: &[u8]) -> usize
 }
 
 // Writes out what waits. What is written is in no contract, so the caller has to show that it is the end of
-// what the text prints.
+// what the text prints. `printing` has the same: a trait over both would be longer than what they share.
 fn finish(text: &[u8], page: &mut Page)
     requires { Waits (printed text.now) page.old }
     ensures { page.new.used ≡ 0 }
