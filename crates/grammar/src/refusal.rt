@@ -2,25 +2,25 @@
 ghost use Rattle.std.specs.Prelude.{◌≡◌};
 ghost use Rattle.grammar.specs.Refusals.{number_of};
 
-// 01's refusals 1 to 16, in its order.
+// 01's refusals, by their numbers.
 #[derive(Clone, Copy, Debug, PartialEq, Eq)]
 pub enum Refusal {
-    Length,
-    Kind,
-    SpareWord,
-    Reference,
-    Range,
-    Repeat,
-    UnsuitedPart,
-    TooLarge,
-    Unguarded,
-    ExceptOnCycle,
-    NoSuchStart,
-    NoSuchNumber,
-    TooDeep,
-    NoRoom,
-    NotACase,
-    NumberTooLarge,
+    Length = 1,
+    Kind = 2,
+    SpareWord = 3,
+    Reference = 4,
+    Range = 5,
+    Repeat = 6,
+    UnsuitedPart = 7,
+    TooLarge = 8,
+    Unguarded = 9,
+    ExceptOnCycle = 10,
+    NoSuchStart = 11,
+    NoSuchNumber = 12,
+    TooDeep = 13,
+    NoRoom = 14,
+    NotACase = 15,
+    NumberTooLarge = 16,
 }
 
 // A refused call has the refusal and its node.
@@ -39,25 +39,9 @@ impl From<Refusal> for Refused {
     }
 }
 
+#[tactic(auto, unfolding(crate::specs::Refusals::number_of))]
 pub fn number_of(refusal: Refusal) -> u64
     ensures { result ≡ number_of refusal }
 {
-    match refusal {
-        Refusal::Length => 1,
-        Refusal::Kind => 2,
-        Refusal::SpareWord => 3,
-        Refusal::Reference => 4,
-        Refusal::Range => 5,
-        Refusal::Repeat => 6,
-        Refusal::UnsuitedPart => 7,
-        Refusal::TooLarge => 8,
-        Refusal::Unguarded => 9,
-        Refusal::ExceptOnCycle => 10,
-        Refusal::NoSuchStart => 11,
-        Refusal::NoSuchNumber => 12,
-        Refusal::TooDeep => 13,
-        Refusal::NoRoom => 14,
-        Refusal::NotACase => 15,
-        Refusal::NumberTooLarge => 16,
-    }
+    refusal as u64
 }
