@@ -31,9 +31,6 @@ module _ {t p : List ℕ} {plan : List Entry} where
   pub pass_start : {b : List Bool} {n : ℕ} → ((k : ℕ) → get_or b k false ≡ false) → SafePass t p plan b n n
   pass_start blank = record { marked = record { safe = λ k f. absurd (false≢true (sym (blank k) ∙ f)) }; all = λ e k l. absurd (omega arith) }
 
-  pub pass_none : {marks : List Bool} → SafeMarks t p plan marks → SafePass t p plan marks 0 0
-  pass_none s = record { marked = s; all = λ e k l. absurd (omega arith) }
-
   module _ {marks : List Bool} {n left : ℕ} (s : SafePass t p plan marks n left) where
     -- the node is safe, and is marked now or was before
     more : {next : List Bool} → SafeMarks t p plan next → Safe t p plan n → SafePass t p plan next (n + 1) left
@@ -41,12 +38,6 @@ module _ {t p : List ℕ} {plan : List Entry} where
 
     pub pass_marked : get_or marks n false ≡ true → SafePass t p plan marks (n + 1) left
     pass_marked f = more s.marked (s.marked.safe n f)
-
-    pub pass_left : SafePass t p plan marks (n + 1) (left + 1)
-    pass_left = record { marked = s.marked; all = λ e. absurd (omega arith) }
-
-    pub pass_end : {count : ℕ} → n ≤ count → count ≤ n → SafePass t p plan marks count left
-    pass_end {count} l u = let e : n ≡ count = omega arith in rw e at s
 
   -- a node whose steps lead to safe nodes alone is safe
   module _ {marks : List Bool} (n : ℕ) (s : SafeMarks t p plan marks) {b : Bool} (asked : b ≡ every (is_marked marks) (steps_of false t p (size_in plan) n))

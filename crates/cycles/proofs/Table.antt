@@ -23,7 +23,7 @@ use Rattle.graph.specs.Marks.{marked}
 use Rattle.graph.proofs.Marks.{unmarked, unmarked_set}
 use Rattle.lists.proofs.Order.{same?}
 use Rattle.graph.proofs.Paths.{carry_from, lowest_on}
-use Rattle.graph.proofs.Search.{Searching, Finite, search_start, search_skip, search_open, search_end}
+use Rattle.graph.proofs.Search.{Searching, Finite, search_start, search_open, search_end}
 use Rattle.graph.proofs.Ways.{via_decide}
 use Rattle.graph.proofs.Lowest.{lowest_of, lowest_one, nowhere}
 use Rattle.grammar.specs.Table.{kind_of, nodes}
@@ -57,12 +57,6 @@ module _ {guarded : Bool} {t p : List ℕ} {plan : List Entry} (r : Ready t p pl
   sought_start {from} {seen} {b} e long blank = record { is = rw e (search_start (graph guarded r.checked) from b long blank) }
 
   module _ {from top : ℕ} {seen done : List Bool} (s : Sought guarded t p plan from top seen done) (pos : 0 < top) where
-    pub sought_unseen : get_or seen (top - 1) false ≡ false → Sought guarded t p plan from (top - 1) seen done
-    sought_unseen e = record { is = search_skip (graph guarded r.checked) s.is (top - 1) (omega arith) (λ h. absurd (false≢true (sym e ∙ h))) }
-
-    pub sought_done : get_or done (top - 1) false ≡ true → Sought guarded t p plan from (top - 1) seen done
-    sought_done f = record { is = search_skip (graph guarded r.checked) s.is (top - 1) (omega arith) (λ h. f) }
-
     module _ {next : List Bool} (f : get_or seen (top - 1) false ≡ true) (e : next ≡ marked seen (steps_of guarded t p (size_in plan) (top - 1))) where
       pub sought_again : kind_of t (top - 1) ≡ 9 → Sought guarded t p plan from (nodes t) next (set done (top - 1) true)
       sought_again k = record {

@@ -24,7 +24,7 @@ fn mark_steps(w: &Weighed, n: usize, guarded: bool, seen: &mut [bool; MOST_NODES
 }
 
 // Whether node n leads back to itself. Each node is opened once: the nodes from `top` on that are
-// marked have been.
+// marked have been. It goes up again after an again, so no `for` runs over it.
 fn comes_back(w: &Weighed, n: usize, guarded: bool) -> bool
     requires { n < nodes w.now.table.now }
     ensures { Decides (Leads guarded w.now.table.now w.now.pool.now (size_in w.now.plan.now) n n) result }

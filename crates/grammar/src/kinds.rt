@@ -110,7 +110,8 @@ pub fn row(
     }
 }
 
-// The nodes that node n names; where not `guarded`, without those to which a step guards a cycle.
+// The nodes that node n names; where not `guarded`, without those to which a step guards a cycle: yes or no, as the
+// rules' own `steps` has it, so an enum would only name the two again.
 #[tactic(auto, using(crate::proofs::KindSteps::steps_as), unfolding(crate::proofs::laws::rules))]
 pub fn steps_of<'a>(w: &Weighed<'a>, n: usize, guarded: bool) -> Named<'a>
     requires { n < nodes w.now.table.now }

@@ -2,7 +2,7 @@
 ghost use Rattle.std.specs.Prelude.{◌≡◌};
 ghost use Rattle.grammar.specs.Refusals.{number_of};
 
-// 01's refusals, with their numbers.
+// 01's refusals, by their numbers.
 #[derive(Clone, Copy, Debug, PartialEq, Eq)]
 pub enum Refusal {
     Length = 1,
@@ -39,6 +39,7 @@ impl From<Refusal> for Refused {
     }
 }
 
+#[tactic(auto, unfolding(crate::specs::Refusals::number_of))]
 pub fn number_of(refusal: Refusal) -> u64
     ensures { result ≡ number_of refusal }
 {

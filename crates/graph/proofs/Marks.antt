@@ -3,7 +3,7 @@
 use mathlib.Core.Path.{◌≡◌, refl, sym, ap, ◌∙◌}
 use mathlib.Core.Bool.{Bool, true, false, false≢true}
 use mathlib.Core.Logic.{◌⊎◌, inl, inr, ⊎_elim}
-use mathlib.Core.List.{List, [], ◌∷◌, ◌++◌, Memᴰ}
+use mathlib.Core.List.{List, [], ◌∷◌, Memᴰ}
 use Prim.Native.Nat.{ℕ, zero, suc, ◌<◌}
 use native.Mathlib.Nat.{le_of_suc-le-suc, not-suc-le-zero}
 use lib.ListN.{length, get_or, set, replicate, length-set}
@@ -50,11 +50,6 @@ marked_only m [] k h = inl h
 marked_only m (x ∷ xs) k h =
     ⊎_elim (λ l. ⊎_elim (λ o. inl o) (λ e. inr (Memᴰ.head e)) (set_only m x k l)) (λ i. inr (Memᴰ.tail i))
     (marked_only (set m x true) xs k h)
-
-pub marked_append : (m : List Bool) (xs ys : List ℕ) → marked m (xs ++ ys) ≡ marked (marked m xs) ys
-unfolding marked
-marked_append m [] ys = refl
-marked_append m (x ∷ xs) ys = marked_append (set m x true) xs ys
 
 -- nothing is marked at first
 pub blank : (n k : ℕ) → get_or (replicate n false) k false ≡ false

@@ -1,8 +1,7 @@
 -- A test of every word of a list, and of a run of `count` words from `at` on.
 --   every_at, every_mem   by a place, by a member
 --   run_long, run_at      the run's words
---   every_run, run_every, run_fails   the test of a run, by places
---   Upto, upto_none, upto_more   what a loop has shown of each number below i
+--   every_run, run_fails   the test of a run, by places
 -- Assumes nothing.
 use mathlib.Core.Path.{◌≡◌, refl, sym, ◌∙◌}
 use mathlib.Core.Bool.{Bool, true, false, false≢true}
@@ -12,7 +11,6 @@ use mathlib.Core.List.{List, [], ◌∷◌, Memᴰ}
 use Prim.Native.Nat.{ℕ, zero, suc, ◌+◌, ◌≤◌, ◌<◌}
 use native.Mathlib.Nat.{not-suc-le-zero, le_of_suc-le-suc}
 use native.Mathlib.Omega.{arith}
-use borrow.Author.Count.{below_none, below_more}
 use lib.ListN.{length, get_or, take, drop, length-take, length-drop}
 use lib.Seq.{get_or-take, get_or-drop}
 use Rattle.numbers.proofs.Tests.{and_left, and_right}
@@ -25,11 +23,6 @@ every_at test [] i l e = absurd (not-suc-le-zero l)
 every_at test (x ∷ xs) zero l e = and_left (test x) (every test xs) e
 every_at test (x ∷ xs) (suc i) l e = every_at test xs i (le_of_suc-le-suc l) (and_right (test x) (every test xs) e)
 
-at_every : (test : ℕ → Bool) (xs : List ℕ) → ((i : ℕ) → i < length xs → test (get_or xs i 0) ≡ true) → every test xs ≡ true
-unfolding every
-at_every test [] h = refl
-at_every test (x ∷ xs) h = rw (h 0 (omega arith), at_every test xs (λ i l. h (suc i) (omega arith)))
-
 module _ (p : List ℕ) (at count : ℕ) (in_p : at + count ≤ length p) where
   pub run_long : length (take count (drop at p)) ≡ count
   run_long = simp (length-take, length-drop) (omega arith)
@@ -40,9 +33,6 @@ module _ (p : List ℕ) (at count : ℕ) (in_p : at + count ≤ length p) where
   module _ (test : ℕ → Bool) where
     pub every_run : every test (take count (drop at p)) ≡ true → (i : ℕ) → i < count → test (get_or p (at + i) 0) ≡ true
     every_run e i l = rw (run_at i l) at (every_at test (take count (drop at p)) i (omega (arith, run_long)) e)
-
-    pub run_every : ((i : ℕ) → i < count → test (get_or p (at + i) 0) ≡ true) → true ≡ every test (take count (drop at p))
-    run_every h = sym (at_every test (take count (drop at p)) (λ i l. let w : i < count = omega (arith, run_long) in rw (run_at i w) (h i w)))
 
     pub run_fails : (i : ℕ) → i < count → test (get_or p (at + i) 0) ≡ false → false ≡ every test (take count (drop at p))
     run_fails i l u = by (every test (take count (drop at p))) refl
@@ -56,14 +46,3 @@ unfolding every
 every_mem test m [] e i = absurd (Memᴰ.not-nil i)
 every_mem test m (x ∷ xs) e i =
     ⊎_elim (λ q. rw q (and_left (test x) (every test xs) e)) (λ j. every_mem test m xs (and_right (test x) (every test xs) e) j) (Memᴰ.cases_cons i)
-
--- what a loop up to count has shown of each number below i
-pub record Upto (Q : ℕ → Type 0) (count i : ℕ) : Type 0 where
-  pub le : i ≤ count
-  pub all : (j : ℕ) → j < i → Q j
-
-pub upto_none : {Q : ℕ → Type 0} {count : ℕ} → Upto Q count 0
-upto_none = record { le = omega arith; all = below_none _ }
-
-pub upto_more : {Q : ℕ → Type 0} {count i : ℕ} → Upto Q count i → i < count → Q i → Upto Q count (i + 1)
-upto_more {Q} {count} {i} u l q = record { le = omega arith; all = below_more _ i u.all q }

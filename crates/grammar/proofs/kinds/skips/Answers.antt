@@ -1,30 +1,28 @@
 -- `grammar::kinds::skips` says which nodes are excepts.
 -- Assumes nothing.
 use mathlib.Core.Path.{◌≡◌, refl, ◌∙◌}
-use mathlib.Core.Bool.{false}
-use mathlib.Core.List.{List}
-use Prim.Native.Nat.{ℕ}
-use Rattle.numbers.specs.Size.{Size}
-use Rattle.grammar.specs.kinds.{kind_in}
+use native.Mathlib.Omega.{arith}
+use Rattle.grammar.specs.kinds.{kinds, unknown}
 use Rattle.grammar.specs.KindWords.{word_of_kind}
 use Rattle.grammar.specs.declared.kind.Kind.{Kind}
 use Rattle.grammar.specs.declared.kind.Kind.TheVariants.{Below, Nats, Pool, Shift, Or, Cons, Dep, Except, Fix, Again}
-use Rattle.grammar.proofs.laws.{rules}
+use Rattle.grammar.proofs.KindLaw.{Plain, each_but}
+use Rattle.grammar.proofs.laws.{rules, plains}
 use Rattle.grammar.proofs.KindSteps.{skips_as}
 use Rattle.grammar.proofs.kinds.skips.Goals as goal
 
-plain : (k : Kind) → (k ≡ Except → ⊥) → (a b : ℕ) (p : List ℕ) (z : ℕ → Size) → false ≡ ((kind_in (word_of_kind k)).rule a b p z).skips
-unfolding rules
-plain Below f a b p z = refl
-plain Nats f a b p z = refl
-plain Pool f a b p z = refl
-plain Shift f a b p z = refl
-plain Or f a b p z = refl
-plain Cons f a b p z = refl
-plain Dep f a b p z = refl
-plain Except f a b p z = absurd (f refl)
-plain Fix f a b p z = refl
-plain Again f a b p z = refl
+-- the kind with except's word is except
+excepts : (k : Kind) → word_of_kind k ≡ 7 → k ≡ Except
+excepts Below e = absurd (omega arith)
+excepts Nats e = absurd (omega arith)
+excepts Pool e = absurd (omega arith)
+excepts Shift e = absurd (omega arith)
+excepts Or e = absurd (omega arith)
+excepts Cons e = absurd (omega arith)
+excepts Dep e = absurd (omega arith)
+excepts Except e = refl
+excepts Fix e = absurd (omega arith)
+excepts Again e = absurd (omega arith)
 
 pub returns-in-Except : goal.returns-in-Except
 unfolding rules
@@ -33,4 +31,5 @@ returns-in-Except c =
 
 pub returns-in_default : goal.returns-in_default
 returns-in_default c =
-    plain _ c.in_default.not-Except _ _ _ _ ∙ skips_as c.args.w.now.passed c.requires refl
+    each_but Plain kinds unknown 7 plains (λ a b p z. refl) _ (λ e. c.in_default.not-Except (excepts _ e)) _ _ _ _
+    ∙ skips_as c.args.w.now.passed c.requires refl
