@@ -76,6 +76,7 @@ pub fn answer(text: &[u8], page: &mut Page)
         words,
     };
     let mut at = 0;
+    // A step is a call's lines: how many bytes they take shows as they are read, so no iterator goes over them.
     while at < text.len() {
         at = desk.answer_line(text, at, page);
     }

@@ -36,6 +36,7 @@ fn safe_pass(w: &Weighed, safe: &mut [bool; MOST_NODES]) -> usize
     ensures { SafePass w.now.table.now w.now.pool.now w.now.plan.now safe.new (nodes w.now.table.now) result }
 {
     let mut left = 0;
+    // By the node's number: its steps are asked for by it, and the other marks are read while its own is set.
     for n in 0..w.count() {
         if safe[n] {
             continue;
@@ -84,6 +85,7 @@ fn all_settled(w: &Weighed, safe: &mut [bool; MOST_NODES]) -> bool
 {
     // What is marked already needs no opening.
     let mut open = *safe;
+    // By the node's number, as in a pass: all the marks are lent on.
     for n in 0..w.count() {
         // Most are marked by now, on the way down from a node before: no call for those.
         if safe[n] {

@@ -65,6 +65,7 @@ pub fn sure(plan: &[Entry], i: usize, room: usize) -> bool
         return false;
     }
     let mut widths = [None; NODES];
+    // A width is made of those before it in the same array, so no iterator over it can be held.
     for k in 0..i + 1 {
         widths[k] = width_of(plan, k, &widths);
     }

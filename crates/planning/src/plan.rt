@@ -69,6 +69,7 @@ pub fn weigh_all(table: &[u64], pool: &[u64], plan: &mut [Entry]) -> Result<(), 
     ensures { AllWeighed table.now pool.now plan.new result }
 {
     let used = used_words();
+    // A row looks at the entries before it in the same plan, so no iterator over it can be held.
     for n in 0..table.len() / 3 {
         plan[n] = weigh_node(table, pool, plan, n, &used)?;
     }

@@ -21,6 +21,7 @@ fn print_input(room: &mut [u8; INPUT_ROOM]) {
 
 fn print_each(text: &[u8]) {
     let mut at = 0;
+    // A step is an input: how many bytes it takes shows as its count is read, so no iterator goes over them.
     while at < text.len() {
         let Some(count) = number_at(text, at) else {
             io::write_all(STDOUT_FILENO, b"no count\n");

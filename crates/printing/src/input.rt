@@ -41,6 +41,7 @@ pub fn one_each(text: &[u8], from: usize) -> bool
     ensures { result ≡ readable (numbers_from text.now from) }
 {
     let mut at = from;
+    // A step is a line: how many bytes it takes shows as it is read, so no iterator goes over them.
     while at < text.len() {
         let Some(one) = one_at(text, at) else {
             return false;
