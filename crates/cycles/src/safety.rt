@@ -1,4 +1,5 @@
-// Marks on nodes that come to no cycle of refusal 9.
+// Marks on nodes that come to no cycle of refusal 9. What is known of them (`SafeMarks`) is of the table too, which is only read:
+// a struct of both would be lent whole where the marks alone change.
 ghost use Rattle.std.specs.Prelude.{◌≡◌, true, false, ℕ, ◌<◌};
 ghost use Rattle.grammar.specs.Table.{nodes};
 ghost use Rattle.lists.specs.Lists.{every};

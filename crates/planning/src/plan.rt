@@ -17,8 +17,8 @@ fn spare_words(kind: Kind, a: u64, b: u64, used: &[[bool; 2]; KINDS]) -> bool
     requires { used.now ≡ used_words }
     ensures { result ≡ spare (kind_in (word_of_kind kind)) a b }
 {
-    let [uses_a, uses_b] = used[kind as usize];
-    (uses_a || a == 0) && (uses_b || b == 0)
+    let [uses_a, uses_b] = &used[kind as usize];
+    (a == 0 || *uses_a) && (b == 0 || *uses_b)
 }
 
 // The whole row of node n: its entry, with its size.
@@ -71,7 +71,8 @@ pub fn weigh_all(table: &[u64], pool: &[u64], plan: &mut [Entry]) -> Result<(), 
     let used = used_words();
     // A row looks at the entries before it in the same plan, so no iterator over it can be held.
     for n in 0..table.len() / 3 {
-        plan[n] = weigh_node(table, pool, plan, n, &used)?;
+        let entry = weigh_node(table, pool, plan, n, &used)?;
+        plan[n].put(entry);
     }
     Ok(())
 }

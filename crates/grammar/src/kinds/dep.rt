@@ -89,6 +89,8 @@ fn in_turn(plan: &[Entry], words: &[u64], n: u64) -> Pair
     }
 }
 
+// What is asked (`DepIn`) is of a plan, a pool and a node's two words, which the walks hold apart.
+//
 // The two parts' numbers, by the seconds' sizes: "Seconds endless: first n mod m, second n div m."
 fn parts(pool: &[u64], plan: &[Entry], a: usize, b: usize, n: u64) -> Pair
     requires { DepIn plan.now pool.now a b }

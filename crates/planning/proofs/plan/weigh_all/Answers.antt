@@ -9,12 +9,12 @@ loop-n-init c =
 
 pub loop-n-preserved : goal.loop-n-preserved
 loop-n-preserved c =
-    weighing_more c.loop-n.invariant (omega arith) c.in_ok-plan.ensures
+    rw c.put.ensures (weighing_more c.loop-n.invariant (omega arith) c.in_ok-entry.ensures)
 
-pub returns-in_err-plan : goal.returns-in_err-plan
-returns-in_err-plan c =
+pub returns-in_err-entry : goal.returns-in_err-entry
+returns-in_err-entry c =
     let p = err_from_is_err_and c.from_residual.result c.from_residual.ensures.1 in
-    rw (p.1, p.2) (weighing_fault c.loop-n.invariant (omega arith) c.in_err-plan.ensures)
+    rw (p.1, p.2) (weighing_fault c.loop-n.invariant (omega arith) c.in_err-entry.ensures)
 
 pub returns : goal.returns
 returns c =
