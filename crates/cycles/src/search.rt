@@ -57,7 +57,7 @@ fn asked(w: &Weighed, n: usize, guarded: bool) -> bool
     ensures { result ≡ asked guarded w.now.table.now w.now.pool.now (size_in w.now.plan.now) n }
 {
     if guarded {
-        return skips(w, n);
+        return skips(w.plan[n].kind);
     }
     w.is_again(n)
 }

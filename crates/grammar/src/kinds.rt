@@ -5,7 +5,7 @@ ghost use Rattle.numbers.specs.Size.{Size, size_of, code_of};
 ghost use Rattle.grammar.specs.Table.{nodes};
 ghost use Rattle.grammar.specs.kinds.{used_words, kind_in};
 ghost use Rattle.grammar.specs.KindWords.{word_of_kind};
-ghost use Rattle.grammar.specs.Nodes.{node_with, rule_at};
+ghost use Rattle.grammar.specs.Nodes.{node_with};
 ghost use Rattle.grammar.specs.Steps.{steps_of};
 ghost use Rattle.grammar.specs.Plan.{size_in, weighed};
 ghost use Rattle.grammar.specs.Named.{named};
@@ -134,11 +134,10 @@ pub fn steps_of<'a>(w: &Weighed<'a>, n: usize, guarded: bool) -> Named<'a>
     }
 }
 
-// Whether node n is an except: refusal 10 asks those alone.
+// Whether a kind is an except: refusal 10 asks those alone.
 #[tactic(auto, unfolding(crate::proofs::laws::rules))]
-pub fn skips(w: &Weighed, n: usize) -> bool
-    requires { n < nodes w.now.table.now }
-    ensures { result ≡ (rule_at w.now.table.now w.now.pool.now (size_in w.now.plan.now) n).skips }
+pub fn skips(kind: Kind) -> bool
+    ensures { (a b : ℕ) (p : List ℕ) (z : ℕ → Size) → result ≡ ((kind_in (word_of_kind kind)).rule a b p z).skips }
 {
-    matches!(w.plan[n].kind, Kind::Except)
+    matches!(kind, Kind::Except)
 }

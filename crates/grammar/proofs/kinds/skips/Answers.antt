@@ -1,14 +1,13 @@
--- `grammar::kinds::skips` says which nodes are excepts.
+-- `grammar::kinds::skips` says which kinds are excepts.
 -- Assumes nothing.
-use mathlib.Core.Path.{◌≡◌, refl, ◌∙◌}
+use mathlib.Core.Path.{◌≡◌, refl}
 use native.Mathlib.Omega.{arith}
 use Rattle.grammar.specs.kinds.{kinds, unknown}
 use Rattle.grammar.specs.KindWords.{word_of_kind}
 use Rattle.grammar.specs.declared.kind.Kind.{Kind}
 use Rattle.grammar.specs.declared.kind.Kind.TheVariants.{Below, Nats, Pool, Shift, Or, Cons, Dep, Except, Fix, Again}
 use Rattle.grammar.proofs.KindLaw.{Plain, each_but}
-use Rattle.grammar.proofs.laws.{rules, plains}
-use Rattle.grammar.proofs.KindSteps.{skips_as}
+use Rattle.grammar.proofs.laws.{plains}
 use Rattle.grammar.proofs.kinds.skips.Goals as goal
 
 -- the kind with except's word is except
@@ -24,12 +23,6 @@ excepts Except e = refl
 excepts Fix e = absurd (omega arith)
 excepts Again e = absurd (omega arith)
 
-pub returns-in-Except : goal.returns-in-Except
-unfolding rules
-returns-in-Except c =
-    skips_as c.args.w.now.passed c.requires c.in-Except.is
-
 pub returns-in_default : goal.returns-in_default
 returns-in_default c =
-    each_but Plain kinds unknown 7 plains (λ a b p z. refl) _ (λ e. c.in_default.not-Except (excepts _ e)) _ _ _ _
-    ∙ skips_as c.args.w.now.passed c.requires refl
+    each_but Plain kinds unknown 7 plains (λ a b p z. refl) _ (λ e. c.in_default.not-Except (excepts _ e))
