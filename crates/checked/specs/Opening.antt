@@ -4,7 +4,6 @@
 -- Assumes nothing.
 use Rattle.std.specs.Prelude.{List, ℕ, ltb, Ok, Err}
 use Rattle.numbers.specs.Pick.{pick}
-use Rattle.grammar.specs.declared.entry.Entry.{Entry}
 use Rattle.grammar.specs.Table.{nodes}
 use Rattle.grammar.specs.Verdict.{verdict}
 use Rattle.grammar.specs.Refusals.{Verdict, accepted, refused}

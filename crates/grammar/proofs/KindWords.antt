@@ -1,5 +1,6 @@
 -- A node's kind, by its word.
 --   row_unknown, row_goes_on, row_spare   a row of a kind that is not known, and by that test
+--   weighed_unknown                       the same of a word and any node
 -- Assumes nothing.
 use mathlib.Core.Path.{◌≡◌, ap}
 use mathlib.Core.Bool.{Bool, true, false}
@@ -10,7 +11,7 @@ use lib.ListN.{length}
 use Rattle.numbers.specs.Size.{Size}
 use Rattle.grammar.specs.Table.{kind_of, a_of, b_of}
 use Rattle.grammar.specs.Checks.{Check, asks, row}
-use Rattle.grammar.specs.Kind.{spare}
+use Rattle.grammar.specs.Kind.{Node, Kind, spare}
 use Rattle.grammar.specs.kinds.{kinds, kind_in}
 use Rattle.grammar.specs.Nodes.{node_at, rule_at, row_at}
 use Rattle.grammar.specs.Plan.{coded, weighed}
@@ -40,3 +41,8 @@ module _ (t p : List ℕ) (z : ℕ → Size) (n : ℕ) where
   pub row_spare : spare (kind_in (kind_of t n)) (a_of t n) (b_of t n) ≡ false → Err SpareWord ≡ coded (row_at t p z n)
   unfolding row_at
   row_spare e = fails _ SpareWord _ _ e
+
+-- the row of a kind's word that is not known, whatever the node
+pub weighed_unknown : (k : ℕ) (v : Node) (z : ℕ → Size) → length kinds ≤ k → Err NoKind ≡ weighed (kind_in k) v z
+unfolding weighed row coded
+weighed_unknown k v z l = rw (past_unknown k l)

@@ -83,8 +83,24 @@ pub fn used_words() -> [[bool; 2]; KINDS]
     USED
 }
 
-// The row of a node whose spare words are zero, by its kind.
+// The row of a node whose spare words are zero, by its kind's word.
 pub fn row(
+    table: &[u64],
+    pool: &[u64],
+    plan: &[Entry],
+    n: usize,
+    kind: u64,
+    a: u64,
+    b: u64,
+) -> Result<u64, Refusal>
+    requires { (length table.now ≡ 3 * nodes table.now) × (n < nodes table.now) × (n ≤ length plan.now) }
+    ensures { result ≡ weighed (kind_in kind) (node_with table.now pool.now n a b) (size_in plan.now) }
+{
+    row_of(table, pool, plan, n, Kind::try_from(kind)?, a as usize, b)
+}
+
+// The same of a kind that is known.
+fn row_of(
     table: &[u64],
     pool: &[u64],
     plan: &[Entry],

@@ -34,12 +34,13 @@ fn weigh(
     ensures { MatchResult result (λ e. Enters table.now n e × (coded (row_at table.now pool.now (size_in plan.now) n) ≡ Ok e.size))
         (λ r. coded (row_at table.now pool.now (size_in plan.now) n) ≡ Err r) }
 {
-    let kind = Kind::try_from(table[3 * n])?;
+    let word = table[3 * n];
     let a = table[3 * n + 1];
     let b = table[3 * n + 2];
+    let kind = Kind::try_from(word)?;
     asks(spare_words(kind, a, b, used), Refusal::SpareWord)?;
+    let size = row(table, pool, plan, n, word, a, b)?;
     let a = a as usize;
-    let size = row(table, pool, plan, n, kind, a, b)?;
     Ok(Entry { kind, a, b, size })
 }
 

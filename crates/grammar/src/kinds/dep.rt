@@ -149,7 +149,7 @@ pub fn join(pool: &[u64], plan: &[Entry], a: usize, b: usize, x: u64, y: u64) ->
 }
 
 // "to a dep's first and each second"
-pub fn steps<'a>(pool: &'a [u64], plan: &[Entry], a: usize, b: usize) -> Named<'a>
+pub(super) fn steps<'a>(pool: &'a [u64], plan: &[Entry], a: usize, b: usize) -> Named<'a>
     requires { (a < length plan.now) × (b + firsts plan.now a ≤ length pool.now) }
     ensures { named result ≡ a ∷ seconds_in plan.now pool.now a b }
 {

@@ -29,7 +29,7 @@ pub fn check(plan: &[Entry], n: usize, a: usize, b: usize) -> Result<u64, Refusa
 }
 
 // "to both parts"; a step to the second part guards a cycle.
-pub fn steps<'a>(a: usize, b: usize, guarded: bool) -> Named<'a>
+pub(super) fn steps<'a>(a: usize, b: usize, guarded: bool) -> Named<'a>
     ensures { named result ≡ a ∷ pick guarded (b ∷ []) [] }
 {
     if guarded {

@@ -21,11 +21,11 @@ pub returns-in_err-size : goal.returns-in_err-size
 returns-in_err-size c =
     let p = err_from_is_err_and c.from_residual-in_err-size.result c.from_residual-in_err-size.ensures.1 in
     let s = rw c.in_ok-kind.ensures at c.spare_words.ensures in
-    rw (p.1, p.2) (sym (rw c.in_ok-kind.ensures at c.in_err-size.ensures ∙ row_goes_on _ _ _ _ (sym s ∙ c.in_ok-asks.ensures)))
+    rw (p.1, p.2) (sym (c.in_err-size.ensures ∙ row_goes_on _ _ _ _ (sym s ∙ c.in_ok-asks.ensures)))
 
 pub returns : goal.returns
 returns c =
     let s = rw c.in_ok-kind.ensures at c.spare_words.ensures in (
       record { kind = c.in_ok-kind.ensures; a = refl; b = refl },
-      sym (rw c.in_ok-kind.ensures at c.in_ok-size.ensures ∙ row_goes_on _ _ _ _ (sym s ∙ c.in_ok-asks.ensures)),
+      sym (c.in_ok-size.ensures ∙ row_goes_on _ _ _ _ (sym s ∙ c.in_ok-asks.ensures)),
     )
