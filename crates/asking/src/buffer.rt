@@ -8,6 +8,7 @@ fn start_word(place: usize) -> u64
     u64::MAX - place as u64
 }
 
+// Each word is made of its place, so no filling with one word does it.
 pub fn fill(buffer: &mut [u64])
     ensures { buffer.new ≡ start_words 0 (length buffer.old) }
 {

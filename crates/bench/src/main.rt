@@ -39,9 +39,9 @@ impl From<u64> for Task {
             2 => Task::Read,
             3 => Task::WriteRow(1000),
             4 => Task::ReadRow(1000),
-            5 => Task::Ask(1000),
             6 => Task::Ask(125),
-            _ => Task::Ask(8000),
+            7 => Task::Ask(8000),
+            _ => Task::Ask(1000),
         }
     }
 }
@@ -103,8 +103,9 @@ fn say(workload: u64, sum: u64) {
 // Lines that cannot be read end the input.
 fn answer_all(text: &[u8], desk: &mut Desk) {
     let mut at = 0;
+    // A line that lacks a number keeps that of the line before.
+    let mut fields = [0u64; 2];
     for _ in 0..MOST_LINES {
-        let mut fields = [0u64; 2];
         let Some(line) = numbers_at(text, at, &mut fields) else {
             return;
         };

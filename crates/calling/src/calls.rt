@@ -37,7 +37,7 @@ pub fn case_call(about: &About<'_>, word: &[u8], rest: &[u8], lent: &mut Words, 
     row_call(about, word, rest, lent, page);
 }
 
-// The calls on rows.
+// The calls on rows, tested as those above.
 fn row_call(about: &About<'_>, word: &[u8], rest: &[u8], lent: &mut Words, page: &mut Page)
     ensures { Puts (chosen word.now (row_calls about.now.table.now about.now.pool.now rest.now))
         page.old page.new }

@@ -12,6 +12,8 @@ pub use grammar::refusal::{Refusal, Refused, number_of};
 pub use reading::read;
 pub use writing::write;
 
+// Table and pool are two slices, as the promises name them.
+//
 // Whether a table is a grammar: Ok, or the refusal and its node.
 pub fn check(table: &[u64], pool: &[u64]) -> Result<(), Refused>
     ensures { answer result ≡ check_says table.now pool.now }

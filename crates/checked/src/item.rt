@@ -19,6 +19,8 @@ pub struct Item {
     pub next: usize,
 }
 
+// No `From`: it goes by what is left of the cells too.
+//
 // Why the walk read nothing: where the cells end, it is 14 if the case may have no more of them, else 15.
 fn why(unread: Unread, full: bool) -> Refusal
     ensures { result ≡ why unread full }

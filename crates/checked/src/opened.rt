@@ -11,9 +11,9 @@ use std::marker::Model;
 // and read.
 #[derive(Drop)]
 pub struct Opened<'a> {
-    pub(crate) pool: &'a [u64],
-    pub(crate) plan: &'a [Entry],
-    pub(crate) start: usize,
+    pub pool: &'a [u64],
+    pub plan: &'a [Entry],
+    pub start: usize,
 }
 
 impl<'a> Model for Opened<'a> {

@@ -13,7 +13,7 @@ use grammar::weighed::Weighed;
 // A mark for each node that a table may have.
 pub const MOST_NODES: usize = 256;
 
-// Marks the nodes that node n names.
+// Marks the nodes that node n names. `guarded`, here and below, is the rules' own word (`steps`): an enum would only name the two again.
 fn mark_steps(w: &Weighed, n: usize, guarded: bool, seen: &mut [bool; MOST_NODES])
     requires { n < nodes w.now.table.now }
     ensures { Marks guarded w.now.table.now w.now.pool.now w.now.plan.now n seen.old seen.new }

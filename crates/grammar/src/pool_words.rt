@@ -7,7 +7,7 @@ ghost use Rattle.grammar.specs.declared.refusal.Refusal.TheVariants.{Range};
 
 use super::refusal::Refusal;
 
-// The `count` words from `at` on.
+// The `count` words from `at` on: a place and a count, as the table's words are.
 pub fn run(pool: &[u64], at: usize, count: usize) -> &[u64]
     requires { at + count ≤ length pool.now }
     ensures { result.now ≡ take count (drop at pool.now) }

@@ -1,5 +1,6 @@
 // What a walk leaves of the room. It is one word that reads as a Result: every visit hands one back, and a word stays in a
 // register. As `Result<usize, Stop>` it went through memory, and L was written in 1.7 times the time, 1.4 times the instructions.
+// `Number` of `taking` is such a word too, and says other things.
 ghost use Rattle.std.specs.Prelude.{◌≡◌, ◌^◌, ◌<◌};
 ghost use Rattle.grammar.specs.declared.refusal.Refusal.{Refusal};
 ghost use Rattle.walk.specs.Room.{RoomLeft, Left};

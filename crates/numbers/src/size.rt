@@ -2,8 +2,8 @@
 ghost use Rattle.std.specs.Prelude.{◌≡◌, ◌<◌};
 ghost use Rattle.numbers.specs.Size.{finite, plus, times, less, size_of, code_of, measured};
 
-// The word of an endless size, above every finite one, so that `<` between words is that of sizes: an enum of two cases
-// would match four where two sizes are compared.
+// The word of an endless size, above every finite one, so that `<` between words is that of sizes. No enum: the functions
+// below answer for every word, and a type would ask more.
 pub const ENDLESS: u64 = 9223372036854775808;
 
 // The largest finite size, 2^62.

@@ -34,6 +34,7 @@ impl Ways {
         }
     }
 
+    // A look-up by what has been met: an enum would only name yes and no again.
     fn weight(self, seen: bool) -> u64
         ensures { result ≡ weight self seen }
     {

@@ -32,6 +32,8 @@ pub fn print_all(text: &[u8]) -> usize
     page.used
 }
 
+// As in `calling`: a trait over both would be longer than what they share.
+//
 // Writes out what waits. What is written is in no contract, so the caller has to show that it is the end of
 // what the text prints.
 fn finish(text: &[u8], page: &mut Page)

@@ -25,6 +25,7 @@ impl OnRow for ReadRow<'_> {
     }
 }
 
+// `write_row` has the same shape; what is called and what is printed differ.
 fn read_cells(about: &About<'_>, start: usize, cells: &[u64], numbers: &mut [u64], page: &mut Page)
     ensures { PrintsRow
         (gotten (gather (rules_of about.now.table.now about.now.pool.now) start (length numbers.old) cells.now))

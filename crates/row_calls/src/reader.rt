@@ -15,6 +15,7 @@ impl OnCells for Reader<'_> {
 
     // Asks until the row's end or a refusal: an item moves the place on, so one of the two comes.
     fn call(&self, start: usize, cells: &[u64], page: &mut Page) {
+        // A step is an item: how many cells it has shows as it is read.
         let mut at: usize = 0;
         loop {
             let stride = rows::read_at(self.about.table, self.about.pool, start, cells, at);

@@ -25,6 +25,7 @@ impl OnRow for WriteRow<'_> {
     }
 }
 
+// `read_row` has the same shape; what is called and what is printed differ.
 fn write_cells(about: &About<'_>, start: usize, numbers: &[u64], cells: &mut [u64], page: &mut Page)
     ensures { PrintsRow
         (row_of (rules_of about.now.table.now about.now.pool.now) start numbers.now)

@@ -22,6 +22,8 @@ use walk::lent::Lent;
 // An or's tags, 0 and 1.
 const TAGS: u64 = 2;
 
+// The shapes below share their parameters, not their bodies.
+//
 // or: a tag, and the part that it leads to. 15: "a tag above 1"
 #[cycle(both_chosen_tagged_take_without)]
 fn tagged(

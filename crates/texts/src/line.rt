@@ -31,6 +31,7 @@ fn count_at(text: &[u8], at: usize, room: usize) -> Option<Line>
             next: at + 1,
         });
     }
+    // A step is a number: how many bytes it takes shows as it is read.
     let mut i = at;
     for before in 0..room {
         let end = number_at(text, i)?.end;

@@ -33,7 +33,7 @@ pub fn step(pool: &[u64], a: usize, n: u64) -> u64
     pool[a + n as usize]
 }
 
-// Where c is among `count` words of the pool, from `at` on.
+// Where c is among `count` words of the pool, from `at` on: a place and a count, as the table's words are.
 pub fn place_of(pool: &[u64], at: usize, count: usize, c: u64) -> Option<u64>
     requires { at + count ≤ length pool.now }
     ensures { result ≡ placed c (take count (drop at pool.now)) }
