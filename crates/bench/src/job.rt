@@ -1,4 +1,6 @@
 // A grammar that is laid out, and how often a task is done on it.
+ghost use Rattle.std.specs.Prelude.{◌≡◌};
+
 use bench_tables::tables::Shape;
 
 #[derive(Drop)]
@@ -34,15 +36,22 @@ impl<'a> Job<'a> {
     }
 
     // A store that no compiler can do without: else a check that gives the same answer each time is made once.
-    fn touch(&mut self) {
+    fn touch(&mut self)
+        ensures start { self.new.start ≡ self.old.start }
+        ensures limit { self.new.limit ≡ self.old.limit }
+        ensures times { self.new.times ≡ self.old.times }
+    {
         if let Some(word) = self.table.first_mut() {
             *word = self.kind;
         }
     }
 
-    // What so many turns make of a sum.
+    // What so many turns make of a sum. The job stays as it is but for its table, so that each turn is asked for the same.
     pub fn turns<F: FnMut(&Job, u64, usize) -> u64>(&mut self, times: usize, mut turn: F) -> u64
         requires { F.IsAlwaysCallable turn }
+        ensures start { self.new.start ≡ self.old.start }
+        ensures limit { self.new.limit ≡ self.old.limit }
+        ensures times { self.new.times ≡ self.old.times }
     {
         let mut sum = 0;
         for k in 0..times {
