@@ -18,9 +18,7 @@ use Rattle.graph.proofs.Paths.{to_no_cycle}
 use Rattle.grammar.specs.Table.{nodes}
 use Rattle.lists.specs.Lists.{every}
 use Rattle.grammar.specs.Steps.{steps_of, Step, Unguarded}
-use Rattle.grammar.specs.Plan.{size_in}
-use Rattle.grammar.specs.Passed.{AllPassed}
-use Rattle.grammar.proofs.PlanSizes.{ready_of}
+use Rattle.grammar.specs.Plan.{size_in, Ready}
 use Rattle.lists.proofs.Runs.{every_mem}
 use Rattle.cycles.specs.Safe.{is_marked, Safe, SafeMarks, SafePass}
 use Rattle.cycles.proofs.Table.{cycle_in}
@@ -57,9 +55,9 @@ module _ {t p : List ℕ} {plan : List Entry} where
     pub pass_safe : {left : ℕ} → SafePass t p plan marks n left → SafePass t p plan (set marks n true) (n + 1) left
     pass_safe q = record { marked = now_marked; all = λ e. below_more _ n (q.all e) here }
 
-  pub all_safe_lem : {marks : List Bool} {left : ℕ} → AllPassed t p plan → SafePass t p plan marks (nodes t) left → left ≤ 0 → (n : ℕ)
+  pub all_safe_lem : {marks : List Bool} {left : ℕ} → Ready t p plan → SafePass t p plan marks (nodes t) left → left ≤ 0 → (n : ℕ)
       → Unguarded t p (size_in plan) n → ⊥
-  all_safe_lem r s l n q = (s.all (omega arith) n (cycle_in false (ready_of r).checked n q)).never n q q
+  all_safe_lem r s l n q = (s.all (omega arith) n (cycle_in false r.checked n q)).never n q q
 
 -- ---- nodes that are settled, rising
 pub record Settled (t p : List ℕ) (plan : List Entry) (marks : List Bool) (n : ℕ) : Type 0 where
@@ -75,5 +73,5 @@ module _ {t p : List ℕ} {plan : List Entry} where
       → Settled t p plan next (n + 1)
   settled_more {marks} {next} {n} s l m f = record { le = omega arith; marked = m; all = below_more _ n s.all (m.safe n f) }
 
-  pub settled_all : {marks : List Bool} {n : ℕ} → AllPassed t p plan → Settled t p plan marks n → nodes t ≤ n → (k : ℕ) → Unguarded t p (size_in plan) k → ⊥
-  settled_all r s l k q = (s.all k (omega (arith, cycle_in false (ready_of r).checked k q))).never k q q
+  pub settled_all : {marks : List Bool} {n : ℕ} → Ready t p plan → Settled t p plan marks n → nodes t ≤ n → (k : ℕ) → Unguarded t p (size_in plan) k → ⊥
+  settled_all r s l k q = (s.all k (omega (arith, cycle_in false r.checked k q))).never k q q

@@ -1,7 +1,7 @@
 -- Where the steps of a checked table lead, and the nodes that a node names, one after the other.
 --   step_to      to a node of the table
 --   step_down    to a lower node, but for that of an again
---   named_in, named_few   the nodes named are in the table, and below 256
+--   few_nodes, named_in   a table has at most 256 nodes, and the nodes named are among them
 --   Marking      the nodes that are left to mark; marking_..   its turns
 --   Asking       the nodes that are left to ask; asking_..   its turns
 -- Assumes nothing.
@@ -22,10 +22,8 @@ use Rattle.lists.specs.Lists.{every}
 use Rattle.grammar.specs.Law.{Under}
 use Rattle.grammar.specs.Steps.{steps_of, Step}
 use Rattle.grammar.specs.Checked.{Checked}
-use Rattle.grammar.specs.Plan.{size_in}
-use Rattle.grammar.specs.Passed.{AllPassed}
+use Rattle.grammar.specs.Plan.{size_in, Ready}
 use Rattle.grammar.specs.kinds.Below.{below_rule}
-use Rattle.grammar.proofs.PlanSizes.{ready_of}
 use Rattle.grammar.proofs.Stepping.{under_mem}
 use Rattle.grammar.proofs.Checked.{step_lower}
 use Rattle.grammar.proofs.KindSteps.{steps_by}
@@ -59,12 +57,12 @@ all_under count [] f = tt
 all_under count (x ∷ xs) f = (f x (Memᴰ.head refl), all_under count xs (λ m i. f m (Memᴰ.tail i)))
 
 -- ---- the nodes that a node names
-module _ {t p : List ℕ} {plan : List Entry} (h : AllPassed t p plan) where
+module _ {t p : List ℕ} {plan : List Entry} (r : Ready t p plan) where
   pub few_nodes : nodes t ≤ 256
-  few_nodes = (ready_of h).checked.few
+  few_nodes = r.checked.few
 
   pub named_in : (n : ℕ) (guarded : Bool) {left : List ℕ} → left ≡ steps_of guarded t p (size_in plan) n → Under (nodes t) left
-  named_in n guarded {left} e = all_under (nodes t) left (λ m i. step_to (ready_of h).checked n m guarded (subst (Memᴰ m) e i))
+  named_in n guarded {left} e = all_under (nodes t) left (λ m i. step_to r.checked n m guarded (subst (Memᴰ m) e i))
 
 -- the first of those that are left
 pub first_in : {count k : ℕ} {left rest : List ℕ} → Under count left → left ≡ k ∷ rest → k < count

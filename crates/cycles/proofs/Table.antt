@@ -37,8 +37,6 @@ use Rattle.grammar.specs.Refusals.{accepted, refused}
 use Rattle.numbers.proofs.Tests.{and_left, and_right}
 use Rattle.numbers.specs.Size.{Size}
 use Rattle.std.specs.Prelude.{Option, Some, None}
-use Rattle.grammar.specs.Passed.{AllPassed}
-use Rattle.grammar.proofs.PlanSizes.{ready_of}
 use Rattle.cycles.specs.Finds.{Finds}
 use Rattle.cycles.specs.Asked.{asked, OnCycle}
 use Rattle.cycles.proofs.Steps.{step_down, step_to}
@@ -147,16 +145,16 @@ module _ {t p : List ℕ} {plan : List Entry} (r : Ready t p plan) where
     few = f.few;
   }
 
-  pub lowest_except : {m : Option ℕ} → Finds (OnCycle true t p (size_in plan)) m → Finds (ExceptOnCycle t p (size_in plan)) m
-  lowest_except {m} f = let l = f.lowest in record {
-    lowest = record {
-      within = l.within;
-      found = λ h. let w = l.found h in record { is = w.is; cycle = w.cycle };
-      before = λ k h w. l.before k h (record { is = w.is; cycle = w.cycle });
-      none = λ e k w. l.none e k (record { is = w.is; cycle = w.cycle });
-    };
-    few = f.few;
-  }
+pub lowest_except : (t p : List ℕ) (z : ℕ → Size) {m : Option ℕ} → Finds (OnCycle true t p z) m → Finds (ExceptOnCycle t p z) m
+lowest_except t p z {m} f = let l = f.lowest in record {
+  lowest = record {
+    within = l.within;
+    found = λ h. let w = l.found h in record { is = w.is; cycle = w.cycle };
+    before = λ k h w. l.before k h (record { is = w.is; cycle = w.cycle });
+    none = λ e k w. l.none e k (record { is = w.is; cycle = w.cycle });
+  };
+  few = f.few;
+}
 
 -- ---- the verdict on cycles, computed and found
 module _ {t p : List ℕ} {z : ℕ → Size} (c : Checked t p z) where
@@ -186,10 +184,7 @@ module _ {t p : List ℕ} {z : ℕ → Size} (c : Checked t p z) where
   unfolding cycles
   cycles_by f h = rw (lowest_one unguarded_is f, lowest_one except_is h)
 
-module _ {t p : List ℕ} {plan : List Entry} (h : AllPassed t p plan) where
-  r : Ready t p plan
-  r = ready_of h
-
+module _ {t p : List ℕ} {plan : List Entry} (r : Ready t p plan) where
   pub cycles_9 : {u : ℕ} → Finds (Unguarded t p (size_in plan)) (Some u) → refused Rule9 u ≡ cycles t p (size_in plan)
   cycles_9 {u} f = rw (lt-ltb u 256 f.few) at (cycles_by r.checked f.lowest (except_is r.checked))
 

@@ -19,7 +19,7 @@ use search::lowest_asked;
 
 // Whether any node is an again.
 fn has_again(w: &Weighed) -> bool
-    ensures { result ≡ false → (n : ℕ) → n < nodes w.now.table.now → kind_of w.now.table.now n ≡ 9 → ⊥ }
+    ensures { result ≡ false → (n : ℕ) → n < nodes w.now.table → kind_of w.now.table n ≡ 9 → ⊥ }
 {
     for n in 0..w.count() {
         if w.is_again(n) {
@@ -32,8 +32,9 @@ fn has_again(w: &Weighed) -> bool
 // Refusal 9: the lowest node on a cycle that never steps to the second part of an or. It is searched
 // for only where the passes leave a node, since a search from each again is slow.
 fn unguarded(w: &Weighed) -> Option<u64>
-    ensures { Finds (Unguarded w.now.table.now w.now.pool.now (size_in w.now.plan.now)) result }
+    ensures { Finds (Unguarded w.now.table w.now.pool (size_in w.now.plan)) result }
 {
+    w.checked();
     if all_safe(w) {
         return None;
     }
@@ -42,15 +43,16 @@ fn unguarded(w: &Weighed) -> Option<u64>
 
 // Refusal 10: the lowest except on any cycle.
 fn except_on_cycle(w: &Weighed) -> Option<u64>
-    ensures { Finds (ExceptOnCycle w.now.table.now w.now.pool.now (size_in w.now.plan.now)) result }
+    ensures { Finds (ExceptOnCycle w.now.table w.now.pool (size_in w.now.plan)) result }
 {
     lowest_asked(w, true)
 }
 
 // "then cycles": any 9 comes before any 10. A table with no again is not searched.
 pub fn judge(w: &Weighed) -> Result<(), Refused>
-    ensures { result ≡ cycles w.now.table.now w.now.pool.now (size_in w.now.plan.now) }
+    ensures { result ≡ cycles w.now.table w.now.pool (size_in w.now.plan) }
 {
+    w.checked();
     if !has_again(w) {
         return Ok(());
     }

@@ -18,9 +18,10 @@ const DEEPEST: usize = 257;
 // Whether the nodes that node n steps to are all marked safe. A step that guards a cycle is not asked: 9
 // never takes one.
 fn steps_safe(w: &Weighed, n: usize, safe: &[bool; MOST_NODES]) -> bool
-    requires { n < nodes w.now.table.now }
-    ensures { result ≡ every (is_marked safe.now) (steps_in false w.now.table.now w.now.pool.now w.now.plan.now n) }
+    requires { n < nodes w.now.table }
+    ensures { result ≡ every (is_marked safe.now) (steps_in false w.now.table w.now.pool w.now.plan n) }
 {
+    w.checked();
     let steps = steps_of(w, n, false);
     for k in steps {
         if !safe[k] {
@@ -33,8 +34,8 @@ fn steps_safe(w: &Weighed, n: usize, safe: &[bool; MOST_NODES]) -> bool
 // One pass over the nodes, rising: marks those whose steps lead to safe nodes alone, and says how
 // many stay unmarked.
 fn safe_pass(w: &Weighed, safe: &mut [bool; MOST_NODES]) -> usize
-    requires { SafeMarks w.now.table.now w.now.pool.now w.now.plan.now safe.old }
-    ensures { SafePass w.now.table.now w.now.pool.now w.now.plan.now safe.new (nodes w.now.table.now) result }
+    requires { SafeMarks w.now.table w.now.pool w.now.plan safe.old }
+    ensures { SafePass w.now.table w.now.pool w.now.plan safe.new (nodes w.now.table) result }
 {
     let mut left = 0;
     // By the node's number: its steps are asked for by it, and the other marks are read while its own is set.
@@ -59,10 +60,11 @@ fn settle(
     open: &mut [bool; MOST_NODES],
     safe: &mut [bool; MOST_NODES],
 )
-    requires n_bound { n < nodes w.now.table.now }
-    requires safe_marks { SafeMarks w.now.table.now w.now.pool.now w.now.plan.now safe.old }
-    ensures { SafeMarks w.now.table.now w.now.pool.now w.now.plan.now safe.new }
+    requires n_bound { n < nodes w.now.table }
+    requires safe_marks { SafeMarks w.now.table w.now.pool w.now.plan safe.old }
+    ensures { SafeMarks w.now.table w.now.pool w.now.plan safe.new }
 {
+    w.checked();
     if left == 0 {
         return;
     }
@@ -81,8 +83,8 @@ fn settle(
 // Whether every node can be marked: each is settled, those it steps to before it, so that a table with no
 // refusal 9 is gone through once.
 fn all_settled(w: &Weighed, safe: &mut [bool; MOST_NODES]) -> bool
-    requires { SafeMarks w.now.table.now w.now.pool.now w.now.plan.now safe.old }
-    ensures { result ≡ true → (n : ℕ) → Unguarded w.now.table.now w.now.pool.now (size_in w.now.plan.now) n → ⊥ }
+    requires { SafeMarks w.now.table w.now.pool w.now.plan safe.old }
+    ensures { result ≡ true → (n : ℕ) → Unguarded w.now.table w.now.pool (size_in w.now.plan) n → ⊥ }
 {
     // What is marked already needs no opening.
     let mut open = *safe;
@@ -103,7 +105,7 @@ fn all_settled(w: &Weighed, safe: &mut [bool; MOST_NODES]) -> bool
 // Whether marks show that no node is on "a cycle that never steps to the second part of an or". Passes
 // over the nodes go on while each leaves at most half of those before it; then what is left is settled.
 pub fn all_safe(w: &Weighed) -> bool
-    ensures { result ≡ true → (n : ℕ) → Unguarded w.now.table.now w.now.pool.now (size_in w.now.plan.now) n → ⊥ }
+    ensures { result ≡ true → (n : ℕ) → Unguarded w.now.table w.now.pool (size_in w.now.plan) n → ⊥ }
 {
     let mut safe = [false; MOST_NODES];
     let mut left = w.count();

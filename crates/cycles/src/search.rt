@@ -15,9 +15,10 @@ pub const MOST_NODES: usize = 256;
 
 // Marks the nodes that node n names. `guarded`, here and below, is the rules' own word (`steps`): an enum would only name the two again.
 fn mark_steps(w: &Weighed, n: usize, guarded: bool, seen: &mut [bool; MOST_NODES])
-    requires { n < nodes w.now.table.now }
-    ensures { Marks guarded w.now.table.now w.now.pool.now w.now.plan.now n seen.old seen.new }
+    requires { n < nodes w.now.table }
+    ensures { Marks guarded w.now.table w.now.pool w.now.plan n seen.old seen.new }
 {
+    w.checked();
     for k in steps_of(w, n, guarded) {
         seen[k] = true;
     }
@@ -26,8 +27,8 @@ fn mark_steps(w: &Weighed, n: usize, guarded: bool, seen: &mut [bool; MOST_NODES
 // Whether node n leads back to itself. Each node is opened once: the nodes from `top` on that are
 // marked have been. It goes up again after an again, so no `for` runs over it.
 fn comes_back(w: &Weighed, n: usize, guarded: bool) -> bool
-    requires { n < nodes w.now.table.now }
-    ensures { Decides (Leads guarded w.now.table.now w.now.pool.now (size_in w.now.plan.now) n n) result }
+    requires { n < nodes w.now.table }
+    ensures { Decides (Leads guarded w.now.table w.now.pool (size_in w.now.plan) n n) result }
 {
     let mut seen = [false; MOST_NODES];
     let mut done = [false; MOST_NODES];
@@ -53,18 +54,18 @@ fn comes_back(w: &Weighed, n: usize, guarded: bool) -> bool
 // Whether a cycle is looked for from node n: for refusal 10 from the excepts, for 9 from the
 // agains, since the lowest node of any cycle is one.
 fn asked(w: &Weighed, n: usize, guarded: bool) -> bool
-    requires { n < nodes w.now.table.now }
-    ensures { result ≡ asked guarded w.now.table.now w.now.pool.now (size_in w.now.plan.now) n }
+    requires { n < nodes w.now.table }
+    ensures { result ≡ asked guarded w.now.table w.now.pool (size_in w.now.plan) n }
 {
     if guarded {
-        return skips(w.plan[n].kind);
+        return skips(w.table[3 * n]);
     }
     w.is_again(n)
 }
 
 // The lowest node that is asked and is on a cycle, where there is one.
 pub fn lowest_asked(w: &Weighed, guarded: bool) -> Option<u64>
-    ensures { Finds (OnCycle guarded w.now.table.now w.now.pool.now (size_in w.now.plan.now)) result }
+    ensures { Finds (OnCycle guarded w.now.table w.now.pool (size_in w.now.plan)) result }
 {
     for n in 0..w.count() {
         if asked(w, n, guarded) {

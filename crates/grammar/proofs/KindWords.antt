@@ -11,7 +11,7 @@ use lib.ListN.{length}
 use Rattle.numbers.specs.Size.{Size}
 use Rattle.grammar.specs.Table.{kind_of, a_of, b_of}
 use Rattle.grammar.specs.Checks.{Check, asks, row}
-use Rattle.grammar.specs.Kind.{Node, Kind, spare}
+use Rattle.grammar.specs.Kind.{Node, spare}
 use Rattle.grammar.specs.kinds.{kinds, kind_in}
 use Rattle.grammar.specs.Nodes.{node_at, rule_at, row_at}
 use Rattle.grammar.specs.Plan.{coded, weighed}

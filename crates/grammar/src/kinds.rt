@@ -130,13 +130,16 @@ fn row_of(
 // rules' own `steps` has it, so an enum would only name the two again.
 #[tactic(auto, using(crate::proofs::KindSteps::steps_as), unfolding(crate::proofs::laws::rules))]
 pub fn steps_of<'a>(w: &Weighed<'a>, n: usize, guarded: bool) -> Named<'a>
-    requires { n < nodes w.now.table.now }
-    ensures { named result ≡ steps_of guarded w.now.table.now w.now.pool.now (size_in w.now.plan.now) n }
+    requires { n < nodes w.now.table }
+    ensures { named result ≡ steps_of guarded w.now.table w.now.pool (size_in w.now.plan) n }
 {
-    let entry = w.plan[n];
-    let a = entry.a;
-    let b = entry.b as usize;
-    match entry.kind {
+    let table = w.table;
+    let Ok(kind) = Kind::try_from(table[3 * n]) else {
+        return none();
+    };
+    let a = table[3 * n + 1] as usize;
+    let b = table[3 * n + 2] as usize;
+    match kind {
         Kind::Below => none(),
         Kind::Nats => none(),
         Kind::Pool => none(),
@@ -150,10 +153,9 @@ pub fn steps_of<'a>(w: &Weighed<'a>, n: usize, guarded: bool) -> Named<'a>
     }
 }
 
-// Whether a kind is an except: refusal 10 asks those alone.
-#[tactic(auto, unfolding(crate::proofs::laws::rules))]
-pub fn skips(kind: Kind) -> bool
-    ensures { (a b : ℕ) (p : List ℕ) (z : ℕ → Size) → result ≡ ((kind_in (word_of_kind kind)).rule a b p z).skips }
+// Whether a kind is an except: refusal 10 asks those alone. A word that is no kind's is none.
+pub fn skips(kind: u64) -> bool
+    ensures { (a b : ℕ) (p : List ℕ) (z : ℕ → Size) → result ≡ ((kind_in kind).rule a b p z).skips }
 {
-    matches!(kind, Kind::Except)
+    kind == Kind::Except as u64
 }

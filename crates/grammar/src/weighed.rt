@@ -1,33 +1,53 @@
-// A table whose nodes have passed, as cycles are looked for in it.
+// A checked table, as cycles are looked for in it.
 ghost use Rattle.std.specs.Prelude.{◌≡◌, ◌<◌, eqb};
 ghost use Rattle.grammar.specs.Table.{kind_of, nodes};
-ghost use Rattle.grammar.specs.Passed.{AllPassed};
+ghost use Rattle.grammar.specs.Plan.{Ready};
 
 use super::entry::Entry;
 use super::kind::Kind;
+use std::marker::Model;
 
-// The table, its pool, and the plan that its nodes were put into as they passed.
-#[derive(Clone, Copy)]
+// The table, its pool, and a plan that has the sizes: of the plan nothing else is asked.
+#[derive(Drop)]
 pub struct Weighed<'a> {
     pub table: &'a [u64],
     pub pool: &'a [u64],
     pub plan: &'a [Entry],
-    pub ghost passed: { AllPassed table.now pool.now plan.now },
+}
+
+impl<'a> Model for Weighed<'a> {
+    ghost use Rattle.grammar.specs.Plan.{Ready};
+    ghost use Rattle.grammar.specs.Sized.{Sized};
+
+    ghost Value = { Sized };
+
+    ghost view = { λ w. record { table = w.table.now; pool = w.pool.now; plan = w.plan.now } };
+
+    ghost invariant = { λ w. Ready w.table.now w.pool.now w.plan.now };
 }
 
 impl<'a> Weighed<'a> {
-    // How many nodes there are.
+    // The table is checked. It does nothing: whoever uses no field sees the value alone, and is told by it.
+    pub fn checked(&self)
+        ensures { Ready self.now.table self.now.pool self.now.plan }
+    {
+        let _ = &self.plan;
+    }
+
+    // How many nodes there are. Whoever counts them is told that the table is checked, too.
     pub fn count(&self) -> usize
-        ensures { result ≡ nodes self.now.table.now }
+        ensures count { result ≡ nodes self.now.table }
+        ensures ready { Ready self.now.table self.now.pool self.now.plan }
     {
         self.table.len() / 3
     }
 
     // Whether a node is an again: the lowest node of any cycle is one.
     pub fn is_again(&self, n: usize) -> bool
-        requires { n < nodes self.now.table.now }
-        ensures { result ≡ eqb (kind_of self.now.table.now n) 9 }
+        requires { n < nodes self.now.table }
+        ensures { result ≡ eqb (kind_of self.now.table n) 9 }
     {
-        matches!(self.plan[n].kind, Kind::Again)
+        let table = self.table;
+        table[3 * n] == Kind::Again as u64
     }
 }

@@ -6,4 +6,4 @@ use Rattle.grammar.specs.Table.{kind_of}
 use Rattle.cycles.proofs.has_again.Given as goal
 
 abbrev pub invariant-loop-n : goal.invariant-loop-n
-invariant-loop-n l = (k : ℕ) → k < l.n → kind_of l.w.table.now k ≡ 9 → ⊥
+invariant-loop-n l = (k : ℕ) → k < l.n → kind_of l.w.table k ≡ 9 → ⊥

@@ -5,16 +5,16 @@ use Rattle.cycles.proofs.judge.Goals as goal
 
 pub returns-then-not-has_again : goal.returns-then-not-has_again
 returns-then-not-has_again c =
-    cycles_no_again c.args.w.now.passed c.has_again.ensures c.if-not-has_again.true
+    cycles_no_again c.checked.ensures c.has_again.ensures c.if-not-has_again.true
 
 pub returns-in-Some : goal.returns-in-Some
 returns-in-Some c =
-    cycles_9 c.args.w.now.passed c.in-Some.ensures
+    cycles_9 c.checked.ensures c.in-Some.ensures
 
 pub returns-in-Some-except_on_cycle : goal.returns-in-Some-except_on_cycle
 returns-in-Some-except_on_cycle c =
-    cycles_10 c.args.w.now.passed c.in_default.ensures c.in-Some-except_on_cycle.ensures
+    cycles_10 c.checked.ensures c.in_default.ensures c.in-Some-except_on_cycle.ensures
 
 pub returns : goal.returns
 returns c =
-    cycles_none c.args.w.now.passed c.in_default.ensures c.in_default-except_on_cycle.ensures
+    cycles_none c.checked.ensures c.in_default.ensures c.in_default-except_on_cycle.ensures

@@ -1,6 +1,5 @@
 -- `cycles::unguarded` asks the agains alone, and only where marks leave it open: the lowest node of a cycle is one.
 -- Assumes nothing.
-use Rattle.grammar.proofs.PlanSizes.{ready_of}
 use Rattle.cycles.proofs.Table.{finds_none, lowest_again}
 use Rattle.cycles.proofs.unguarded.Goals as goal
 
@@ -10,4 +9,4 @@ returns-then-all_safe c =
 
 pub returns : goal.returns
 returns c =
-    lowest_again (ready_of c.args.w.now.passed) c.lowest_asked.ensures
+    lowest_again c.checked.ensures c.lowest_asked.ensures

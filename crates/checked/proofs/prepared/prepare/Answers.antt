@@ -15,3 +15,7 @@ returns-in_err-weigh_all c =
 pub returns : goal.returns
 returns c =
     prepared_cycles c.weigh_all.ensures (lengths_are _ _ c.if-not-lengths_fit.ensures) c.in_ok-weigh_all.was c.requires (search rules) c.judge.ensures
+
+pub invariant_of-judge : goal.invariant_of-judge
+invariant_of-judge c =
+    prepared_ready c.weigh_all.ensures (lengths_are _ _ c.if-not-lengths_fit.ensures) c.in_ok-weigh_all.was

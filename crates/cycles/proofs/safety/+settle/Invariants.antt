@@ -10,4 +10,4 @@ abbrev pub decreases-settle : goal.decreases-settle
 decreases-settle l = l.left
 
 abbrev pub invariant-loop-k : goal.invariant-loop-k
-invariant-loop-k l = Under (nodes l.w.table.now) (named l.k-iterator) × SafeMarks l.w.table.now l.w.pool.now l.w.plan.now l.safe
+invariant-loop-k l = Under (nodes l.w.table) (named l.k-iterator) × SafeMarks l.w.table l.w.pool l.w.plan l.safe

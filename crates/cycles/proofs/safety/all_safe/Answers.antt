@@ -4,7 +4,7 @@ use Rattle.cycles.proofs.safety.all_safe.Goals as goal
 
 pub loop-left-init : goal.loop-left-init
 loop-left-init c =
-    rw c.count-left.ensures (pass_start (blank 256))
+    rw c.count-left.ensures.count (pass_start (blank 256))
 
 pub all_settled-requires : goal.all_settled-requires
 all_settled-requires c =
@@ -16,4 +16,4 @@ returns-then-left-still c =
 
 pub returns : goal.returns
 returns c =
-    λ e. all_safe_lem c.args.w.now.passed c.loop-left.invariant c.loop-left-test.false
+    λ e. all_safe_lem c.count-left.ensures.ready c.loop-left.invariant c.loop-left-test.false

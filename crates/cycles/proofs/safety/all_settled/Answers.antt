@@ -16,4 +16,4 @@ loop-n-preserved c =
 
 pub returns : goal.returns
 returns c =
-    λ e. settled_all c.args.w.now.passed c.loop-n.invariant (omega arith)
+    λ e. settled_all c.count-n-end.ensures.ready c.loop-n.invariant (omega arith)

@@ -4,4 +4,4 @@ use Rattle.cycles.proofs.Safe.{Settled}
 use Rattle.cycles.proofs.safety.all_settled.Given as goal
 
 abbrev pub invariant-loop-n : goal.invariant-loop-n
-invariant-loop-n l = Settled l.w.table.now l.w.pool.now l.w.plan.now l.safe l.n
+invariant-loop-n l = Settled l.w.table l.w.pool l.w.plan l.safe l.n

@@ -6,4 +6,4 @@ use Rattle.cycles.specs.Safe.{SafePass}
 use Rattle.cycles.proofs.safety.safe_pass.Given as goal
 
 abbrev pub invariant-loop-n : goal.invariant-loop-n
-invariant-loop-n l = (l.n ≤ nodes l.w.table.now) × (l.left ≤ l.n) × SafePass l.w.table.now l.w.pool.now l.w.plan.now l.safe l.n l.left
+invariant-loop-n l = (l.n ≤ nodes l.w.table) × (l.left ≤ l.n) × SafePass l.w.table l.w.pool l.w.plan l.safe l.n l.left

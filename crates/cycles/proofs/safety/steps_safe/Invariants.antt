@@ -9,4 +9,4 @@ use Rattle.cycles.proofs.Steps.{Asking}
 use Rattle.cycles.proofs.safety.steps_safe.Given as goal
 
 abbrev pub invariant-loop-k : goal.invariant-loop-k
-invariant-loop-k l = Asking (nodes l.w.table.now) (is_marked l.safe) (steps_in false l.w.table.now l.w.pool.now l.w.plan.now l.n) (named l.k-iterator)
+invariant-loop-k l = Asking (nodes l.w.table) (is_marked l.safe) (steps_in false l.w.table l.w.pool l.w.plan l.n) (named l.k-iterator)

@@ -6,7 +6,7 @@ use Rattle.cycles.proofs.Table.{Sought}
 use Rattle.cycles.proofs.search.comes_back.Given as goal
 
 abbrev pub invariant-loop-top : goal.invariant-loop-top
-invariant-loop-top l = Sought l.guarded l.w.table.now l.w.pool.now l.w.plan.now l.n l.top l.seen l.done
+invariant-loop-top l = Sought l.guarded l.w.table l.w.pool l.w.plan l.n l.top l.seen l.done
 
 abbrev pub decreases-loop-top : goal.decreases-loop-top
 decreases-loop-top l = 257 * unmarked l.done + l.top

@@ -1,5 +1,4 @@
 use native.Mathlib.Omega.{arith}
-use Rattle.grammar.proofs.PlanSizes.{ready_of}
 use Rattle.cycles.proofs.Table.{passed_none, passed_kind, passed_cycle, lowest_found, lowest_none}
 use Rattle.cycles.proofs.search.lowest_asked.Goals as goal
 use Rattle.cycles.proofs.search.lowest_asked.Goals.{then-asked+else-comes_back, else-asked}
@@ -10,11 +9,11 @@ loop-n-init c =
 
 pub returns-then-comes_back : goal.returns-then-comes_back
 returns-then-comes_back c =
-    lowest_found _ (ready_of c.args.w.now.passed) _ c.asked.ensures c.loop-n.invariant (omega arith) c.if-asked.true c.comes_back.ensures c.if-comes_back.true
+    lowest_found _ c.count-n-end.ensures.ready _ c.asked.ensures c.loop-n.invariant (omega arith) c.if-asked.true c.comes_back.ensures c.if-comes_back.true
 
 pub loop-n-preserved : goal.loop-n-preserved
 loop-n-preserved c =
-    let r = ready_of c.args.w.now.passed in
+    let r = c.count-n-end.ensures.ready in
     let i = c.loop-n.invariant in
     let a = c.asked.ensures in
     elim c.if-asked.branch [
@@ -24,4 +23,4 @@ loop-n-preserved c =
 
 pub returns : goal.returns
 returns c =
-    lowest_none (ready_of c.args.w.now.passed) c.loop-n.invariant (omega arith)
+    lowest_none c.count-n-end.ensures.ready c.loop-n.invariant (omega arith)

@@ -4,4 +4,4 @@ use Rattle.cycles.proofs.Table.{Passed}
 use Rattle.cycles.proofs.search.lowest_asked.Given as goal
 
 abbrev pub invariant-loop-n : goal.invariant-loop-n
-invariant-loop-n l = Passed l.guarded l.w.table.now l.w.pool.now l.w.plan.now l.n
+invariant-loop-n l = Passed l.guarded l.w.table l.w.pool l.w.plan l.n

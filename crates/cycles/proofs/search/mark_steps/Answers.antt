@@ -7,11 +7,11 @@ use Rattle.cycles.proofs.search.mark_steps.Goals as goal
 pub loop-k-init : goal.loop-k-init
 loop-k-init c =
     let e = ap named c.into_iter-k-iterator.ensures.into_iter_gives ∙ c.steps_of-k-items.ensures in
-    record { inside = named_in c.args.w.now.passed _ _ e; marks = rw e }
+    record { inside = named_in c.checked.ensures _ _ e; marks = rw e }
 
 pub bounds-seen-k : goal.bounds-seen-k
 bounds-seen-k c =
-    omega (arith, first_in c.loop-k.invariant.inside c.in-Some.ensures.steps, few_nodes c.args.w.now.passed)
+    omega (arith, first_in c.loop-k.invariant.inside c.in-Some.ensures.steps, few_nodes c.checked.ensures)
 
 pub loop-k-preserved : goal.loop-k-preserved
 loop-k-preserved c =

@@ -8,4 +8,4 @@ use Rattle.cycles.proofs.Steps.{Marking}
 use Rattle.cycles.proofs.search.mark_steps.Given as goal
 
 abbrev pub invariant-loop-k : goal.invariant-loop-k
-invariant-loop-k l = Marking (nodes l.w.table.now) (marked l.initial.seen (steps_in l.guarded l.w.table.now l.w.pool.now l.w.plan.now l.n)) l.seen (named l.k-iterator)
+invariant-loop-k l = Marking (nodes l.w.table) (marked l.initial.seen (steps_in l.guarded l.w.table l.w.pool l.w.plan l.n)) l.seen (named l.k-iterator)
