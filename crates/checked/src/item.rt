@@ -9,6 +9,7 @@ use super::opened::Opened;
 use grammar::refusal::Refusal;
 use numbers::size::LARGEST;
 use taking::number::Unread;
+use taking::source::Source;
 use taking::take::take;
 use walk::lent::Lent;
 
@@ -57,13 +58,15 @@ impl<'a> Opened<'a> {
     {
         let left = cells.len() - at;
         let few = room_for(left);
-        let row = &cells[at..at + few];
-        let mut used: usize = 0;
-        let lent = Lent {
-            pool: self.pool,
-            plan: self.plan,
+        let from = Source {
+            lent: Lent {
+                pool: self.pool,
+                plan: self.plan,
+            },
+            row: &cells[at..at + few],
         };
-        let number = match take(&lent, self.start, row, DEPTH, 0, &mut used).result() {
+        let mut used: usize = 0;
+        let number = match take(&from, self.start, DEPTH, 0, &mut used).result() {
             Ok(number) => number,
             Err(unread) => return Err(why(unread, MOST_CELLS <= left)),
         };

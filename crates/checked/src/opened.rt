@@ -8,8 +8,8 @@ use grammar::refusal::{Refusal, Refused};
 use std::marker::Model;
 
 // A start in a table that has passed the check, by the plan that the walks use: cases of it are written
-// and read.
-#[derive(Drop)]
+// and read. It is cloned and not copied, since a model with a lifetime can have no `Copy` yet.
+#[derive(Clone, Drop)]
 pub struct Opened<'a> {
     pub pool: &'a [u64],
     pub plan: &'a [Entry],

@@ -2,8 +2,9 @@
 --   met         why a walk stops
 --   refusal_of  the refusal that says so
 --   room_left   what is left, or why not
+--   word_of     the code's word of it
 -- Assumes nothing.
-use Rattle.std.specs.Prelude.{ℕ, Result, Ok, Err}
+use Rattle.std.specs.Prelude.{ℕ, ◌+◌, ◌^◌, Result, Ok, Err}
 use Rattle.grammar.specs.declared.refusal.Refusal.{Refusal}
 use Rattle.grammar.specs.declared.refusal.Refusal.TheVariants as Refusals
 use Rattle.walk.specs.Room.{RoomLeft, Left}
@@ -22,3 +23,8 @@ refusal_of NoRoom = Refusals.NoRoom
 abbrev pub room_left : Result ℕ Stop → RoomLeft
 room_left (Ok rest) = Left rest
 room_left (Err s) = met s
+
+abbrev pub word_of : RoomLeft → ℕ
+word_of (Left rest) = rest
+word_of Deep = 2 ^ 63
+word_of Full = 2 ^ 63 + 1

@@ -5,7 +5,7 @@ ghost use Rattle.std.specs.Prelude.{◌≡◌, ◌^◌, ◌<◌};
 ghost use Rattle.grammar.specs.declared.refusal.Refusal.{Refusal};
 ghost use Rattle.walk.specs.Room.{RoomLeft, Left};
 ghost use Rattle.walk.specs.Laid.{left_of};
-ghost use Rattle.laying.specs.Rest.{met, refusal_of, room_left};
+ghost use Rattle.laying.specs.Rest.{met, refusal_of, room_left, word_of};
 
 use grammar::refusal::Refusal;
 use std::marker::Model;
@@ -33,15 +33,22 @@ const TOO_DEEP: usize = 9223372036854775808;
 
 const NO_ROOM: usize = 9223372036854775809;
 
-#[derive(Drop)]
+#[derive(Clone, Copy, Debug, PartialEq, Eq)]
 pub struct Rest {
     word: usize,
 }
 
+// The word is the one for what it says, so that what it says gives it back: a value that is copied or compared has to.
 impl Model for Rest {
     ghost Value = { RoomLeft };
 
     ghost view = { λ r. left_of r.word };
+
+    ghost invariant = { λ r. word_of (left_of r.word) ≡ r.word };
+
+    ghost inverse = { λ r. record { word = word_of r } };
+
+    ghost inverse_ok = { λ r h i. record { word = h i } };
 }
 
 impl Rest {

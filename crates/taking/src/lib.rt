@@ -3,4 +3,5 @@
 
 pub mod number;
 pub mod own;
+pub mod source;
 pub mod take;

@@ -23,7 +23,7 @@ const UNFIT: u64 = 9223372036854775810;
 
 const ENDED: u64 = 9223372036854775811;
 
-#[derive(Drop)]
+#[derive(Clone, Copy, Debug, PartialEq, Eq)]
 pub struct Number {
     word: u64,
 }
@@ -32,6 +32,8 @@ impl Model for Number {
     ghost Value = { ℕ };
 
     ghost view = { λ n. n.word };
+
+    ghost inverse = { λ w. record { word = w } };
 }
 
 impl Number {

@@ -155,9 +155,9 @@ both-returns-in_err-second t c =
     let y = read_err c.take-2.ensures _ c.in_err-second.ensures in
     rw (p.1, p.2) (cons_stays _ _ _ _ _ _ c.take.ensures c.requires.reading (read_ok _ c.in_ok-first.ensures) y (omega (arith, unread_over c.in_err-second.field-0.0)))
 
-pub chosen-bounds-lent-b : goal.chosen-bounds-lent-b
+pub chosen-bounds-from-b : goal.chosen-bounds-from-b
 unfolding rules
-chosen-bounds-lent-b t c =
+chosen-bounds-from-b t c =
     let d = c.requires.choosing in
     let x = read_some c.take.ensures c.in_ok-x.ensures c.in-Some.is in
     let low = dep_first d _ _ x.0 (omega (arith, x.1)) in
@@ -172,9 +172,9 @@ chosen-join-requires t c =
     let low = dep_first d _ _ x.0 (omega (arith, x.1)) in
     (d.words, low.1)
 
-pub chosen-offset_bounds-lent-b : goal.chosen-offset_bounds-lent-b
+pub chosen-offset_bounds-from-b : goal.chosen-offset_bounds-from-b
 unfolding rules
-chosen-offset_bounds-lent-b t c =
+chosen-offset_bounds-from-b t c =
     let d = c.requires.choosing in
     let x = read_some c.take.ensures c.in_ok-x.ensures c.in-Some.is in
     let low = dep_first d _ _ x.0 (omega (arith, x.1)) in
