@@ -1,5 +1,5 @@
 -- What is known of a capped number.
---   is_exact, is_big   which it is, as the number is below the limit or not
+--   exact, big         which it is, as the number is below the limit or not; is_big the same as the code gives it
 --   of_some, of_none   and back
 -- Assumes nothing.
 use mathlib.Core.Path.{◌≡◌, refl, sym}
