@@ -6,7 +6,7 @@ ghost use Rattle.checked.specs.Opening.{opening};
 ghost use Rattle.printing.specs.Printed.{case_line, printed, Judges, Answers};
 
 use super::input::{POOL_WORDS, TABLE_WORDS, one_at};
-use super::shape::Shape;
+use super::shape::{Shape, TableLine};
 use checked::opened::with_opened;
 use grammar::refusal::{Refusal, Refused, number_of};
 use texts::page::Page;
@@ -48,8 +48,12 @@ pub fn answer(text: &[u8], page: &mut Page)
     ensures { Puts (printed text.now) page.old page.new }
 {
     let mut table = [0; TABLE_WORDS];
+    let Some(first) = TableLine::read(text, &mut table) else {
+        return page.unreadable();
+    };
+    // The pool's words are cleared only for a text whose table's line is read.
     let mut pool = [0; POOL_WORDS];
-    let Some(shape) = Shape::read(text, &mut table, &mut pool) else {
+    let Some(shape) = Shape::read(text, first, &mut pool) else {
         return page.unreadable();
     };
     let asked = Asked {
