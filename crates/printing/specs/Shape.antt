@@ -2,7 +2,7 @@
 --   shaped    the input that a shape stands for, with those words
 --   Shapes    it is what the text asks for, and its numbers are readable
 --   tabled, Tabled   the input that a table's line begins, with the words that it left; it is what the text asks for
---   Behind    a shape that was read behind a table's line shapes the text, with any table that the line began it with
+--   Behind    what was read behind a table's line: with the words that the line left, it is the text's shape
 -- Assumes nothing.
 use Rattle.std.specs.Prelude.{◌≡◌, Bool, true, List, ℕ, take, Option, Some, None}
 use Rattle.printing.specs.Input.{Input, unclear, pool_line, with_numbers, with_pool, numbers_from, readable, input_of}

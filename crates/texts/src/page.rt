@@ -50,7 +50,7 @@ impl Page {
         self.used
     }
 
-    // A text that fits is copied whole.
+    // A text that fits is copied whole: byte by byte takes a test of the page's end for each.
     #[inline]
     pub fn put_text(&mut self, text: &[u8])
         ensures { Puts text.now self.old self.new }
@@ -65,7 +65,7 @@ impl Page {
         self.put_bytes(text);
     }
 
-    // A text on whose way the page gets full.
+    // A text that does not fit: the page is written out where it gets full, and the rest goes to its front.
     #[cold]
     #[inline(never)]
     fn put_bytes(&mut self, text: &[u8])
@@ -85,6 +85,7 @@ impl Page {
         self.used = at + 1;
     }
 
+    // Most numbers that are printed are one digit, which needs no buffer.
     pub fn put_number(&mut self, n: u64)
         ensures { Puts (decimal n) self.old self.new }
     {
