@@ -53,7 +53,7 @@ pub fn print_all(text: &[u8]) -> usize
 // what the text prints. `printing` has the same: a trait over both would be longer than what they share.
 fn finish(text: &[u8], page: &mut Page)
     requires { Waits (printed text.now) page.old }
-    ensures { page.new.used ≡ 0 }
+    ensures { page.new ≡ record page.old { used = 0 } }
 {
     page.flush();
 }

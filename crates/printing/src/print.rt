@@ -6,7 +6,7 @@ ghost use Rattle.checked.specs.Opening.{opening};
 ghost use Rattle.printing.specs.Printed.{case_line, printed, Judges, Answers};
 
 use super::input::{POOL_WORDS, TABLE_WORDS, one_at};
-use super::shape::Shape;
+use super::shape::{Shape, TableLine};
 use checked::opened::with_opened;
 use grammar::refusal::{Refusal, Refused, number_of};
 use texts::page::Page;
@@ -38,7 +38,7 @@ pub fn print_all(text: &[u8]) -> usize
 // what the text prints.
 fn finish(text: &[u8], page: &mut Page)
     requires { Waits (printed text.now) page.old }
-    ensures { page.new.used ≡ 0 }
+    ensures { page.new ≡ record page.old { used = 0 } }
 {
     page.flush();
 }
@@ -48,8 +48,12 @@ pub fn answer(text: &[u8], page: &mut Page)
     ensures { Puts (printed text.now) page.old page.new }
 {
     let mut table = [0; TABLE_WORDS];
+    let Some(first) = TableLine::read(text, &mut table) else {
+        return page.unreadable();
+    };
+    // The pool's words are cleared only for a text whose table's line is read.
     let mut pool = [0; POOL_WORDS];
-    let Some(shape) = Shape::read(text, &mut table, &mut pool) else {
+    let Some(shape) = Shape::read(text, first, &mut pool) else {
         return page.unreadable();
     };
     let asked = Asked {

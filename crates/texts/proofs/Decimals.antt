@@ -1,7 +1,8 @@
 -- The decimal text of a number, which is the library's.
 --   decimal_same     of a word
+--   decimal_digit_is   of a number below ten
 -- Assumes nothing.
-use mathlib.Core.Path.{◌≡◌, refl, ap, ◌∙◌}
+use mathlib.Core.Path.{◌≡◌, refl, sym, ap, ◌∙◌}
 use mathlib.Core.Bool.{Bool, true, false}
 use mathlib.Core.List.{[], ◌∷◌, ◌++◌}
 use Prim.Native.Nat.{ℕ, zero, suc, ◌+◌, ◌/◌, ◌%◌, ◌^◌, ◌≤◌, ◌<◌}
@@ -28,3 +29,6 @@ enough (suc f) n h l = by (ltb n 10) refl (λ k. enough f (n / 10) k (omega arit
 pub decimal_same : (n : ℕ) → n < 2 ^ 64 → library_decimal n ≡ decimal n
 unfolding decimal
 decimal_same n h = enough (suc n) n (omega arith) h
+
+pub decimal_digit_is : (n : ℕ) → n < 10 → (48 + n) ∷ [] ≡ decimal n
+decimal_digit_is n l = sym (decimal_digit n l) ∙ decimal_same n (omega arith)

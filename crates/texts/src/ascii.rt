@@ -5,5 +5,7 @@ pub const SPACE: u8 = b' ';
 
 pub const DIGIT_0: u8 = b'0';
 
+pub const DIGIT_9: u8 = b'9';
+
 // Numbers are decimal.
 pub const BASE: u64 = 10;

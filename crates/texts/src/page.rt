@@ -1,9 +1,10 @@
 // Bytes to print, gathered on a page so that no number costs a system call of its own.
-ghost use Rattle.std.specs.Prelude.{◌≡◌};
+ghost use Rattle.std.specs.Prelude.{◌≡◌, [], ◌∷◌};
 ghost use Rattle.texts.specs.Decimal.{decimal};
 ghost use Rattle.texts.specs.Line.{line_text, spaced};
 ghost use Rattle.texts.specs.Page.{Puts, place as place_of};
 
+use super::ascii::{BASE, DIGIT_0};
 use super::streams::STDOUT_FILENO;
 use itoa::Buffer;
 
@@ -28,6 +29,8 @@ impl Page {
     }
 
     // Writes out what waits. A write that fails is not tried again: what is put later goes on to the page.
+    #[cold]
+    #[inline(never)]
     pub fn flush(&mut self)
         ensures { self.new ≡ record self.old { used = 0 } }
     {
@@ -47,19 +50,48 @@ impl Page {
         self.used
     }
 
+    // A text that fits is copied whole: byte by byte takes a test of the page's end for each.
+    #[inline]
     pub fn put_text(&mut self, text: &[u8])
         ensures { Puts text.now self.old self.new }
     {
+        let at = self.used;
+        if at <= PAGE_BYTES && text.len() <= PAGE_BYTES - at {
+            let end = at + text.len();
+            self.bytes[at..end].copy_from_slice(text);
+            self.used = end;
+            return;
+        }
+        self.put_bytes(text);
+    }
+
+    // A text that does not fit: the page is written out where it gets full, and the rest goes to its front.
+    #[cold]
+    #[inline(never)]
+    fn put_bytes(&mut self, text: &[u8])
+        ensures { Puts text.now self.old self.new }
+    {
         for byte in text {
-            let at = self.place();
-            self.bytes[at] = *byte;
-            self.used = at + 1;
+            self.put_byte(*byte);
         }
     }
 
+    #[inline]
+    fn put_byte(&mut self, byte: u8)
+        ensures { Puts (byte ∷ []) self.old self.new }
+    {
+        let at = self.place();
+        self.bytes[at] = byte;
+        self.used = at + 1;
+    }
+
+    // Most numbers that are printed are one digit, which needs no buffer.
     pub fn put_number(&mut self, n: u64)
         ensures { Puts (decimal n) self.old self.new }
     {
+        if n < BASE {
+            return self.put_byte(DIGIT_0 + n as u8);
+        }
         self.put_text(Buffer::new().format(n).as_bytes());
     }
 

@@ -1,4 +1,5 @@
 -- What an input prints, by its shape.
+--   no_line                     where its first line is no table's
 --   no_shape, some_shape
 -- Assumes nothing.
 use mathlib.Core.Path.{◌≡◌, refl, ap}
@@ -12,9 +13,14 @@ use Rattle.texts.specs.Page.{Puts}
 use Rattle.texts.specs.Said.{unreadable_text}
 use Rattle.texts.proofs.page.Putting.{told as named}
 use Rattle.printing.specs.Input.{numbers_from, readable, with_numbers}
-use Rattle.printing.specs.Shape.{Shapes}
+use Rattle.printing.specs.Shape.{Shapes, Tabled}
 use Rattle.printing.specs.Printed.{told, printed, Judges}
 use Rattle.printing.specs.declared.shape.Shape.{Shape}
+use Rattle.printing.specs.declared.shape.TableLine.{TableLine}
+
+pub no_line : {text table : List ℕ} {r : Option TableLine} → Tabled text table r → r ≡ None → unreadable_text ≡ printed text
+unfolding printed told
+no_line k e = ap told (rw e at k.is)
 
 module _ {text table pool : List ℕ} {r : Option Shape} (k : Shapes text table pool r) where
   pub no_shape : r ≡ None → unreadable_text ≡ printed text

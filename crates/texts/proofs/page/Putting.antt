@@ -2,18 +2,21 @@
 --   place_in, _front, _within      where the next byte goes
 --   one, ◌then◌, told              a byte, a text behind another, and a text by another name
 --   Putting, put_none, _more, _all a text, byte by byte
+--   put_whole                      a text that fits, all at once
 --   Listing, list_none, _more, _all numbers, a space before each
 --   line_none, line_some           a line of numbers
 -- Assumes nothing.
 use mathlib.Core.Path.{◌≡◌, refl, sym, subst, ◌∙◌}
 use mathlib.Core.Bool.{Bool, true, false, cond}
 use mathlib.Core.List.{List, [], ◌∷◌, ◌++◌, append-nil, append_assoc}
-use Prim.Native.Nat.{ℕ, ◌+◌, ◌-◌, ◌≤◌, ◌<◌}
+use Prim.Native.Nat.{ℕ, suc, ◌+◌, ◌-◌, ◌≤◌, ◌<◌}
 use native.Mathlib.Numerals.{add-one}
 use native.Mathlib.Omega.{arith}
 use lib.Dec.{ltb}
-use lib.ListN.{length, get_or, take, drop, set}
-use lib.Seq.{take-suc, take_all}
+use lib.ListN.{length, get_or, take, drop, set, length-set}
+use lib.Seq.{take-suc, take_all, drop-cons, drop-set-lt}
+use borrow.Rule.Slice.PartMut.{put_mid}
+use Rattle.std.proofs.lemmas.List.{take-append-drop, take_more_set}
 use borrow.Author.Tests.{ltb-true, lt-ltb, le-ltb}
 use Rattle.texts.specs.declared.page.Page.{Page}
 use Rattle.texts.specs.Decimal.{decimal}
@@ -81,6 +84,31 @@ module _ {text : List ℕ} {old now : Page} {i : ℕ} (s : Putting text old now 
 
   pub put_all : length text ≤ i → Puts text old now
   put_all l = rw (take_all i text l) at s.so_far
+
+-- ---- a text that fits, all at once
+whole_page : (text page : List ℕ) (used : ℕ) → used + length text ≤ page_bytes → length page ≡ page_bytes
+    → put_mid used (length text) page text ≡ page_after text page used
+unfolding page_after
+whole_page [] page used l w = take-append-drop used page
+whole_page (b ∷ bs) page used l w =
+    let h : used < length page = omega arith in
+    let k : used < used + 1 = omega arith in
+    let onto : put_mid used (length (b ∷ bs)) page (b ∷ bs) ≡ put_mid (used + 1) (length bs) (set page used b) bs =
+    rw (take_more_set page used b h, drop-set-lt (used + 1) page used b k, add-one, drop-cons page used 0 h)
+    (sym (append_assoc (take used page) (b ∷ []) (bs ++ drop (length bs) (drop (suc used) page)))) in
+    rw (← place_in used (omega arith)) (onto ∙ whole_page bs (set page used b) (used + 1) (omega arith) (length-set page used b ∙ w))
+
+whole_waits : (text : List ℕ) (used : ℕ) → used + length text ≤ page_bytes → used + length text ≡ waiting text used
+unfolding waiting
+whole_waits [] used l = omega arith
+whole_waits (b ∷ bs) used l =
+    let further : used + length (b ∷ bs) ≡ used + 1 + length bs = omega arith in
+    rw (← place_in used (omega arith)) (further ∙ whole_waits bs (used + 1) (omega arith))
+
+pub put_whole : {text copied : List ℕ} {old : Page} {size : ℕ} → old.used + length text ≤ page_bytes → length old.bytes ≡ page_bytes → copied ≡ text
+    → size ≡ length text → Puts text old (record { bytes = put_mid old.used size old.bytes copied; used = old.used + length text })
+put_whole {text} {old = old} l w e s =
+    record { page = rw (e, s) (whole_page text old.bytes old.used l w); waits = whole_waits text old.used l }
 
 -- ---- numbers, a space before each
 spaced_then : (ns : List ℕ) (n : ℕ) → spaced (ns ++ (n ∷ [])) ≡ spaced ns ++ ((32 ∷ []) ++ decimal n)

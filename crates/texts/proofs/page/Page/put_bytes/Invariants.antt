@@ -1,7 +1,7 @@
--- `texts::page::Page::put_text` has put the bytes so far.
+-- `texts::page::Page::put_bytes` has put the bytes so far.
 -- Assumes nothing.
 use Rattle.texts.proofs.page.Putting.{Putting}
-use Rattle.texts.proofs.page.Page.put_text.Given as goal
+use Rattle.texts.proofs.page.Page.put_bytes.Given as goal
 
 abbrev pub invariant-loop-byte : goal.invariant-loop-byte
 invariant-loop-byte l = Putting l.text l.initial.self l.self l.byte-index
