@@ -7,8 +7,9 @@ use super::entry::Entry;
 use super::kind::Kind;
 use std::marker::Model;
 
-// The table, its pool, and a plan that has the sizes: of the plan nothing else is asked.
-#[derive(Drop)]
+// The table, its pool, and a plan that has the sizes: of the plan nothing else is asked. It is cloned and not copied,
+// since a model with a lifetime can have no `Copy` yet.
+#[derive(Clone, Drop)]
 pub struct Weighed<'a> {
     pub table: &'a [u64],
     pub pool: &'a [u64],
