@@ -129,7 +129,7 @@ fn row_of(
 // The nodes that node n names; where not `guarded`, without those to which a step guards a cycle: yes or no, as the
 // rules' own `steps` has it, so an enum would only name the two again.
 #[tactic(auto, using(crate::proofs::KindSteps::steps_as), unfolding(crate::proofs::laws::rules))]
-pub fn steps_of<'a>(w: &Weighed<'a>, n: usize, guarded: bool) -> Named<'a>
+pub fn steps_of<'a>(w: &Weighed<'_, 'a>, n: usize, guarded: bool) -> Named<'a>
     requires { n < nodes w.now.table }
     ensures { named result ≡ steps_of guarded w.now.table w.now.pool (size_in w.now.plan) n }
 {

@@ -7,16 +7,16 @@ use super::entry::Entry;
 use super::kind::Kind;
 use std::marker::Model;
 
-// The table, its pool, and a plan that has the sizes: of the plan nothing else is asked. It is cloned and not copied,
-// since a model with a lifetime can have no `Copy` yet.
+// The table, its pool, and a plan that has the sizes: of the plan nothing else is asked. The pool has a lifetime of its
+// own, since what a node names is read from it. It is cloned and not copied: a model with a lifetime has no `Copy` yet.
 #[derive(Clone, Drop)]
-pub struct Weighed<'a> {
+pub struct Weighed<'a, 'b> {
     pub table: &'a [u64],
-    pub pool: &'a [u64],
+    pub pool: &'b [u64],
     pub plan: &'a [Entry],
 }
 
-impl<'a> Model for Weighed<'a> {
+impl<'a, 'b> Model for Weighed<'a, 'b> {
     ghost use Rattle.grammar.specs.Plan.{Ready};
     ghost use Rattle.grammar.specs.Sized.{Sized};
 
@@ -27,7 +27,7 @@ impl<'a> Model for Weighed<'a> {
     ghost invariant = { λ w. Ready w.table.now w.pool.now w.plan.now };
 }
 
-impl<'a> Weighed<'a> {
+impl<'a, 'b> Weighed<'a, 'b> {
     // The table is checked. It does nothing: whoever uses no field sees the value alone, and is told by it.
     pub fn checked(&self)
         ensures { Ready self.now.table self.now.pool self.now.plan }
