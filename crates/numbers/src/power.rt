@@ -6,16 +6,21 @@ ghost use Rattle.numbers.specs.Power.{root_of};
 
 use super::divided::divided;
 
-// A loop: of so few factors the tests of the exponent's bits, as `pow` has them, cost more than they save.
+// Of a constant exponent `pow` is a few products; of another one it tests the exponent's bits. The square root's 2 is a
+// constant where its search is compiled.
 fn power(base: u64, t: usize) -> u64
-    requires { base ^ t < 2 ^ 64 }
+    requires { (t ≤ 8) × (base ^ t < 2 ^ 64) }
     ensures { result ≡ base ^ t }
 {
-    let mut p: u64 = 1;
-    for _ in 0..t {
-        p *= base;
+    match t {
+        3 => base.pow(3),
+        4 => base.pow(4),
+        5 => base.pow(5),
+        6 => base.pow(6),
+        7 => base.pow(7),
+        8 => base.pow(8),
+        _ => base.pow(t as u32),
     }
-    p
 }
 
 // The largest root of a number that a walk has: the power of the next one is past every number's limit.
@@ -101,7 +106,7 @@ fn guess(t: usize, n: u64) -> u64
 // The first number from `from` down whose power is within n: the root, where that is not above `from`. A loop, as `up` too:
 // there is always such a number, and `find` over the numbers would answer an Option of it.
 pub(super) fn down(t: usize, n: u64, from: u64) -> u64
-    requires { (0 < t) × (from ^ t < 2 ^ 64) }
+    requires { (0 < t) × (t ≤ 8) × (from ^ t < 2 ^ 64) }
     ensures within { result ^ t ≤ n }
     ensures root { n < (from + 1) ^ t → result ≡ root_of t n }
 {
@@ -114,7 +119,7 @@ pub(super) fn down(t: usize, n: u64, from: u64) -> u64
 
 // The last number from `from` up whose power is within n.
 pub(super) fn up(t: usize, n: u64, from: u64) -> u64
-    requires { (0 < t) × (from ^ t ≤ n) × ((root_of t n + 1) ^ t < 2 ^ 64) }
+    requires { (0 < t) × (t ≤ 8) × (from ^ t ≤ n) × ((root_of t n + 1) ^ t < 2 ^ 64) }
     ensures { result ≡ root_of t n }
 {
     let mut r = from;

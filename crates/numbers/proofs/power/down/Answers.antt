@@ -5,7 +5,7 @@ use Rattle.numbers.proofs.power.down.Goals as goal
 
 pub power-requires : goal.power-requires
 power-requires c =
-    omega (arith, c.requires.1, pow_le c.args.t c.loop-r.invariant.0)
+    (c.requires.1, omega (arith, c.requires.2, pow_le c.args.t c.loop-r.invariant.0))
 
 pub overflow_sub-r : goal.overflow_sub-r
 overflow_sub-r c =

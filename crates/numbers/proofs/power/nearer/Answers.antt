@@ -25,7 +25,7 @@ overflow_mul-others c =
 
 pub power-requires : goal.power-requires
 power-requires c =
-    omega (arith, less _ _ c.requires.0 c.requires.1 c.requires.3 (omega arith))
+    (omega arith, omega (arith, less _ _ c.requires.0 c.requires.1 c.requires.3 (omega arith)))
 
 pub nonzero_div-n : goal.nonzero_div-n
 nonzero_div-n c =

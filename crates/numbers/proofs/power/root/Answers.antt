@@ -33,7 +33,7 @@ returns-then-n-t-eq0 c =
 
 pub power-requires : goal.power-requires
 power-requires c =
-    omega (arith, word _ c.requires.0 c.requires.1 _ c.guess-near.ensures)
+    (c.requires.1, omega (arith, word _ c.requires.0 c.requires.1 _ c.guess-near.ensures))
 
 pub overflow_sub-near : goal.overflow_sub-near
 overflow_sub-near c =
@@ -41,7 +41,7 @@ overflow_sub-near c =
 
 pub down-requires : goal.down-requires
 down-requires c =
-    (omega arith, omega (arith, word _ c.requires.0 c.requires.1 (c.guess-near.result - 1) (omega (arith, c.guess-near.ensures))))
+    (omega arith, c.requires.1, omega (arith, word _ c.requires.0 c.requires.1 (c.guess-near.result - 1) (omega (arith, c.guess-near.ensures))))
 
 pub returns-then-n-power : goal.returns-then-n-power
 returns-then-n-power c =
@@ -49,4 +49,4 @@ returns-then-n-power c =
 
 pub up-requires : goal.up-requires
 up-requires c =
-    (omega arith, rw c.power.ensures at c.if-n-power.false, next _ _ c.requires.0 c.requires.1 c.requires.2)
+    (omega arith, c.requires.1, rw c.power.ensures at c.if-n-power.false, next _ _ c.requires.0 c.requires.1 c.requires.2)

@@ -4,15 +4,15 @@ use Rattle.numbers.proofs.power.up.Goals as goal
 
 pub overflow_add-r : goal.overflow_add-r
 overflow_add-r c =
-    omega (arith, next_word _ _ c.requires.0 _ c.loop-r.invariant c.requires.2)
+    omega (arith, next_word _ _ c.requires.0 _ c.loop-r.invariant c.requires.3)
 
 pub power-requires : goal.power-requires
 power-requires c =
-    next_fits _ _ c.requires.0 _ c.loop-r.invariant c.requires.2
+    (c.requires.1, next_fits _ _ c.requires.0 _ c.loop-r.invariant c.requires.3)
 
 pub overflow_add-r-in-loop-r : goal.overflow_add-r-in-loop-r
 overflow_add-r-in-loop-r c =
-    omega (arith, next_word _ _ c.requires.0 _ c.loop-r.invariant c.requires.2)
+    omega (arith, next_word _ _ c.requires.0 _ c.loop-r.invariant c.requires.3)
 
 -- so is the next number, where its power is within n
 pub loop-r-smaller : goal.loop-r-smaller

@@ -26,7 +26,7 @@ returns-then-n-eq0 c =
 
 pub up-requires : goal.up-requires
 up-requires c =
-    (omega arith, c.down.ensures.within, small _ c.if-n-lt-SMALL.true)
+    (omega arith, omega arith, c.down.ensures.within, small _ c.if-n-lt-SMALL.true)
 
 pub returns-then-n-lt-SMALL : goal.returns-then-n-lt-SMALL
 returns-then-n-lt-SMALL c =
