@@ -1,6 +1,7 @@
 -- What the code of `prepare` and of `begin` has found, in the words of their promises.
 --   lengths_are, prepared_length   the lengths are as they must be, or not
 --   prepared_fault    a node is refused
+--   prepared_passed, prepared_ready   the nodes have passed, so the table is checked by its plan
 --   prepared_cycles   the nodes pass, and the verdict is that on cycles
 --   opens_refused     the table is refused
 --   opens_11          the start is not in the table
@@ -23,12 +24,14 @@ use Rattle.grammar.specs.Table.{nodes, lengths}
 use Rattle.grammar.specs.Sizes.{size_at, scan, passed, sizes}
 use Rattle.grammar.specs.Checked.{Checked}
 use Rattle.grammar.specs.Plan.{size_in, Planned, WeighedBy, AllWeighed, Ready}
+use Rattle.grammar.specs.Passed.{AllPassed}
 use Rattle.grammar.specs.Verdict.{cycles, settled, verdict, answer, check_says}
 use Rattle.grammar.specs.declared.refusal.Refusal.TheVariants.{Length, NoSuchStart}
 use Rattle.std.specs.Prelude.{Ok, Err}
 use Rattle.grammar.specs.Refusals.{Verdict, accepted, refused}
 use Rattle.grammar.specs.declared.refusal.Refused.{Refused}
 use Rattle.grammar.proofs.Checked.{checked_of}
+use Rattle.grammar.proofs.PlanSizes.{passed_of, ready_of}
 use Rattle.grammar.proofs.Values.{answer_one}
 use Rattle.planning.proofs.Plans.{plan_sizes}
 use Rattle.walk.specs.Plan.{Reading}
@@ -83,8 +86,11 @@ module _ {t p : List ℕ} {plan : List Entry} {v : Verdict} (a : AllWeighed t p 
     checked : Checked t p (size_at (sizes t p))
     checked = checked_of t p passes l.0 l.2
 
+    pub prepared_passed : AllPassed t p plan
+    prepared_passed = passed_of long a e
+
     pub prepared_ready : Ready t p plan
-    prepared_ready = record { checked = rw (plan_sizes plans) checked; long = plans.long }
+    prepared_ready = ready_of prepared_passed
 
     pub prepared_cycles : {old : List Entry} → Blank t old → length plan ≡ length old → {w : Verdict} → w ≡ cycles t p (size_in plan) → Prepared t p plan w
     unfolding verdict settled check_says

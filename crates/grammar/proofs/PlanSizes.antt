@@ -1,19 +1,30 @@
 -- The sizes that a plan's words stand for.
 --   sizes_as   they are those of a list, where the words are
+--   passed_of   a table that was weighed without a refusal is one whose nodes have passed
+--   ready_of   a table whose nodes have passed is checked, with the sizes of its plan
 -- Assumes nothing.
-use mathlib.Core.Path.{◌≡◌, ap, ◌∙◌, fun_ext}
+use mathlib.Core.Path.{◌≡◌, refl, ap, ◌∙◌, fun_ext}
+use mathlib.Core.Bool.{true, ◌&&◌, false≢true}
 use mathlib.Core.Logic.{⊎_elim}
 use mathlib.Core.List.{List}
-use Prim.Native.Nat.{ℕ, ◌^◌, ◌<◌}
+use Prim.Native.Nat.{ℕ, ◌*◌, ◌^◌, ◌≤◌, ◌<◌}
 use native.Mathlib.Omega.{arith}
+use lib.Dec.{eqb, leb}
 use lib.ListN.{length, get_or-eq_default}
+use borrow.Author.Tests.{eqb-true, leb-true}
 use Rattle.numbers.specs.Size.{Size, finite, endless, code_of, size_of}
 use Rattle.numbers.proofs.size.SizeWords.{sized_finite, sized_endless}
+use Rattle.numbers.proofs.Tests.{and_left, and_right}
 use Rattle.lists.proofs.Order.{le_or_lt}
+use Rattle.std.specs.Prelude.{Ok}
+use Rattle.grammar.specs.Table.{nodes, lengths}
 use Rattle.grammar.specs.Law.{Fit}
-use Rattle.grammar.specs.Sizes.{size_at}
-use Rattle.grammar.specs.Plan.{size_word, size_in}
+use Rattle.grammar.specs.Sizes.{Scan, passed, faulty, size_at, scan, sizes_in, sizes}
+use Rattle.grammar.specs.Plan.{size_word, size_in, WeighedBy, AllWeighed, Ready}
+use Rattle.grammar.specs.Passed.{is_passed, AllPassed}
+use Rattle.grammar.specs.Refusals.{Verdict}
 use Rattle.grammar.specs.declared.entry.Entry.{Entry}
+use Rattle.grammar.proofs.Checked.{sizes_fit, scan_long, checked_of}
 
 word_size : (s : Size) → Fit s → size_of (code_of s) ≡ s
 word_size (finite s) h = sized_finite s (omega arith)
@@ -28,3 +39,42 @@ sizes_as zs plan words fit = fun_ext (λ k.
     -- a node that is not there yet has the word 0
     none : (k : ℕ) → size_at zs k ≡ finite 0 → size_of (code_of (size_at zs k)) ≡ size_at zs k
     none k e = rw e (sized_finite 0 (omega arith))
+
+-- ---- a table whose nodes have passed
+pub passed_of : {t p : List ℕ} {plan : List Entry} {v : Verdict} {u : Unit {0}} → lengths t p ≡ true → AllWeighed t p plan v → v ≡ Ok u
+    → AllPassed t p plan
+passed_of {t} {p} {plan} long a e =
+    let w : WeighedBy t p plan (Ok _) = rw e at a.is in
+    let k = w.1 in
+    record {
+      lengths_fit = long;
+      none_refused = ap is_passed w.0;
+      long = k.long;
+      sizes = k.size;
+      words = λ n l. (k.kind n l, k.a n l, k.b n l);
+    }
+
+whole_scan : (s : Scan) → is_passed s ≡ true → s ≡ passed (sizes_in s)
+whole_scan (passed zs) e = refl
+whole_scan (faulty r k) e = absurd (false≢true e)
+
+module _ {t p : List ℕ} {plan : List Entry} (h : AllPassed t p plan) where
+  all_scanned : scan t p (nodes t) ≡ passed (sizes t p)
+  unfolding sizes
+  all_scanned = whole_scan (scan t p (nodes t)) h.none_refused
+
+  front : ((eqb (length t) (3 * nodes t) && leb 1 (nodes t)) && leb (nodes t) 256) ≡ true
+  front = and_left _ (leb (length p) 4096) h.lengths_fit
+
+  is_whole : length t ≡ 3 * nodes t
+  is_whole = eqb-true (length t) (3 * nodes t) (and_left _ (leb 1 (nodes t)) (and_left _ (leb (nodes t) 256) front))
+
+  is_few : nodes t ≤ 256
+  is_few = leb-true (nodes t) 256 (and_right (eqb (length t) (3 * nodes t) && leb 1 (nodes t)) (leb (nodes t) 256) front)
+
+  pub ready_of : Ready t p plan
+  ready_of = record {
+    checked = rw (sizes_as (sizes t p) plan h.sizes (λ k l. sizes_fit t p all_scanned k (omega (arith, scan_long t p (nodes t) all_scanned))))
+        (checked_of t p all_scanned is_whole is_few);
+    long = h.long;
+  }

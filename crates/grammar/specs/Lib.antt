@@ -13,6 +13,7 @@ pub mod Sizes
 pub mod Steps
 pub mod Verdict
 pub mod Plan
+pub mod Passed
 pub mod Sized
 pub mod Seconds
 pub mod Placed
