@@ -8,13 +8,11 @@
 --   accepted_small                 a node's size is 1 to 2^62 where it is finite
 -- Assumes nothing.
 use mathlib.Core.Path.{◌≡◌, refl, sym, subst, ◌∙◌}
-use mathlib.Core.Bool.{Bool, true, false, ◌&&◌}
+use mathlib.Core.Bool.{Bool, true, false}
 use mathlib.Core.Logic.{⊎_elim}
 use mathlib.Core.List.{List}
-use Prim.Native.Nat.{ℕ, ◌*◌, ◌^◌, ◌≤◌, ◌<◌}
-use lib.Dec.{eqb, leb}
-use lib.ListN.{length}
-use borrow.Author.Tests.{lt-ltb, eqb-true, leb-true}
+use Prim.Native.Nat.{ℕ, ◌^◌, ◌≤◌, ◌<◌}
+use borrow.Author.Tests.{lt-ltb}
 use Rattle.numbers.specs.Size.{Size, finite}
 use Rattle.graph.specs.Paths.{Decides}
 use Rattle.graph.specs.Lowest.{Lowest}
@@ -30,23 +28,14 @@ use Rattle.grammar.specs.Verdict.{leads, unguarded, except_on_cycle, cycles, set
 use Rattle.grammar.specs.declared.refusal.Refusal.{Refusal}
 use Rattle.grammar.specs.declared.refusal.Refusal.TheVariants.{Length, Unguarded as Rule9, ExceptOnCycle as Rule10}
 use Rattle.grammar.specs.Refusals.{accepted, refused}
-use Rattle.numbers.proofs.Tests.{and_left, and_right}
 use Rattle.grammar.proofs.Checked.{checked_of}
+use Rattle.grammar.proofs.Lengths.{lengths_are}
 use Rattle.cycles.proofs.Table.{graph, unguarded_is, except_is, cycles_by}
 use Rattle.checked.proofs.Opens.{refused_not}
 
--- the tests of lengths, as facts
-lengths_mean : (t p : List ℕ) → lengths t p ≡ true → (length t ≡ 3 * nodes t) × (nodes t ≤ 256)
-lengths_mean t p e =
-    let whole = eqb (length t) (3 * nodes t) in
-    let some = leb 1 (nodes t) in
-    let few = leb (nodes t) 256 in
-    let f = and_left ((whole && some) && few) (leb (length p) 4096) e in
-    (eqb-true (length t) (3 * nodes t) (and_left whole some (and_left (whole && some) few f)), leb-true (nodes t) 256 (and_right (whole && some) few f))
-
 module _ (t p : List ℕ) {zs : List Size} (long : lengths t p ≡ true) (pass : scan t p (nodes t) ≡ passed zs) where
   pub table_checked : Checked t p (size_at zs)
-  table_checked = let (w, f) = lengths_mean t p long in checked_of t p pass w f
+  table_checked = let (whole, _, few, _) = lengths_are t p (sym long) in checked_of t p pass whole few
 
   pub leads_is : (guarded : Bool) (a b : ℕ) → Decides (Leads guarded t p (size_at zs) a b) (leads guarded t p (size_at zs) a b)
   unfolding leads

@@ -14,7 +14,7 @@ use Prim.Native.Nat.{ℕ, zero, suc, ◌^◌, ◌≤◌, ◌<◌}
 use native.Mathlib.Nat.{not-suc-le-zero, le_of_suc-le-suc}
 use native.Mathlib.Omega.{arith}
 use lib.Dec.{ltb}
-use lib.ListN.{length, get_or, take, drop, length-take, length-drop, length-append, take-append-drop}
+use lib.ListN.{length, take, drop, length-take, length-drop, length-append, take-append-drop}
 use borrow.Author.Tests.{lt-ltb}
 use Rattle.numbers.specs.Size.{Size, size_of, Below}
 use Rattle.numbers.proofs.size.SizeWords.{by_size}

@@ -9,16 +9,16 @@
 --   judged_past       what an answer says that no refusal is
 --   opens, opened_means   `begin` accepts exactly an accepted table and a start in it
 -- Assumes nothing.
-use mathlib.Core.Path.{◌≡◌, refl, sym, ap, ◌∙◌}
-use mathlib.Core.Bool.{true, false, ◌&&◌}
+use mathlib.Core.Path.{◌≡◌, refl, ap, ◌∙◌}
+use mathlib.Core.Bool.{true, false}
 use mathlib.Core.List.{List}
 use Prim.Native.Nat.{ℕ, ◌*◌, ◌≤◌, ◌<◌}
 use native.Mathlib.Omega.{arith}
-use lib.Dec.{eqb, leb, ltb}
+use lib.Dec.{ltb}
 use lib.ListN.{length}
-use borrow.Author.Tests.{eq-eqb, eqb-true, leb-true, le-leb, lt-ltb, le-ltb, ltb-true}
+use borrow.Author.Tests.{eq-eqb, le-leb, lt-ltb, le-ltb, ltb-true}
 use Rattle.numbers.specs.Size.{Size}
-use Rattle.numbers.proofs.Tests.{pick_by, and_left, and_right}
+use Rattle.numbers.proofs.Tests.{pick_by}
 use Rattle.grammar.specs.declared.entry.Entry.{Entry}
 use Rattle.grammar.specs.Table.{nodes, lengths}
 use Rattle.grammar.specs.Sizes.{size_at, scan, passed, sizes}
@@ -31,6 +31,7 @@ use Rattle.std.specs.Prelude.{Ok, Err}
 use Rattle.grammar.specs.Refusals.{Verdict, accepted, refused}
 use Rattle.grammar.specs.declared.refusal.Refused.{Refused}
 use Rattle.grammar.proofs.Checked.{checked_of}
+pub use Rattle.grammar.proofs.Lengths.{lengths_are}
 use Rattle.grammar.proofs.PlanSizes.{passed_of, ready_of}
 use Rattle.grammar.proofs.Values.{answer_one}
 use Rattle.planning.proofs.Plans.{plan_sizes}
@@ -47,21 +48,6 @@ refused_not e = let x : ◌≡◌ {A = ℕ} 0 1 = cc in omega arith
 pub prepared_length : (t p : List ℕ) (plan : List Entry) → false ≡ lengths t p → Prepared t p plan (refused Length 0)
 unfolding verdict check_says
 prepared_length t p plan e = record { says = rw (← e); ready = λ a. absurd (refused_not a) }
-
--- the lengths are as they must be
-pub lengths_are : (t p : List ℕ) → true ≡ lengths t p → (length t ≡ 3 * nodes t) × (1 ≤ nodes t) × (nodes t ≤ 256) × (length p ≤ 4096)
-lengths_are t p e =
-    let whole = eqb (length t) (3 * nodes t) in
-    let some = leb 1 (nodes t) in
-    let few = leb (nodes t) 256 in
-    let slight = leb (length p) 4096 in
-    let f = and_left ((whole && some) && few) slight (sym e) in
-    let g = and_left (whole && some) few f in (
-      eqb-true (length t) (3 * nodes t) (and_left whole some g),
-      leb-true 1 (nodes t) (and_right whole some g),
-      leb-true (nodes t) 256 (and_right (whole && some) few f),
-      leb-true (length p) 4096 (and_right ((whole && some) && few) slight (sym e)),
-    )
 
 -- what was found by the weighing, at the arm's constructor
 told : {t p : List ℕ} {plan : List Entry} {v w : Verdict} → AllWeighed t p plan v → v ≡ w → WeighedBy t p plan w

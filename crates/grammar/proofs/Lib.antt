@@ -11,6 +11,7 @@ pub mod laws
 pub mod Sizes
 pub mod Checked
 pub mod Faults
+pub mod Lengths
 pub mod PlanSizes
 pub mod SecondsInTurn
 pub mod Joins

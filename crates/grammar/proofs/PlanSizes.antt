@@ -3,18 +3,15 @@
 --   passed_of   a table that was weighed without a refusal is one whose nodes have passed
 --   ready_of   a table whose nodes have passed is checked, with the sizes of its plan
 -- Assumes nothing.
-use mathlib.Core.Path.{◌≡◌, refl, ap, ◌∙◌, fun_ext}
-use mathlib.Core.Bool.{true, ◌&&◌, false≢true}
+use mathlib.Core.Path.{◌≡◌, refl, sym, ap, ◌∙◌, fun_ext}
+use mathlib.Core.Bool.{true, false≢true}
 use mathlib.Core.Logic.{⊎_elim}
 use mathlib.Core.List.{List}
-use Prim.Native.Nat.{ℕ, ◌*◌, ◌^◌, ◌≤◌, ◌<◌}
+use Prim.Native.Nat.{ℕ, ◌^◌, ◌<◌}
 use native.Mathlib.Omega.{arith}
-use lib.Dec.{eqb, leb}
 use lib.ListN.{length, get_or-eq_default}
-use borrow.Author.Tests.{eqb-true, leb-true}
 use Rattle.numbers.specs.Size.{Size, finite, endless, code_of, size_of}
 use Rattle.numbers.proofs.size.SizeWords.{sized_finite, sized_endless}
-use Rattle.numbers.proofs.Tests.{and_left, and_right}
 use Rattle.lists.proofs.Order.{le_or_lt}
 use Rattle.std.specs.Prelude.{Ok}
 use Rattle.grammar.specs.Table.{nodes, lengths}
@@ -25,6 +22,7 @@ use Rattle.grammar.specs.Passed.{is_passed, AllPassed}
 use Rattle.grammar.specs.Refusals.{Verdict}
 use Rattle.grammar.specs.declared.entry.Entry.{Entry}
 use Rattle.grammar.proofs.Checked.{sizes_fit, scan_long, checked_of}
+use Rattle.grammar.proofs.Lengths.{lengths_are}
 
 word_size : (s : Size) → Fit s → size_of (code_of s) ≡ s
 word_size (finite s) h = sized_finite s (omega arith)
@@ -63,18 +61,9 @@ module _ {t p : List ℕ} {plan : List Entry} (h : AllPassed t p plan) where
   unfolding sizes
   all_scanned = whole_scan (scan t p (nodes t)) h.none_refused
 
-  front : ((eqb (length t) (3 * nodes t) && leb 1 (nodes t)) && leb (nodes t) 256) ≡ true
-  front = and_left _ (leb (length p) 4096) h.lengths_fit
-
-  is_whole : length t ≡ 3 * nodes t
-  is_whole = eqb-true (length t) (3 * nodes t) (and_left _ (leb 1 (nodes t)) (and_left _ (leb (nodes t) 256) front))
-
-  is_few : nodes t ≤ 256
-  is_few = leb-true (nodes t) 256 (and_right (eqb (length t) (3 * nodes t) && leb 1 (nodes t)) (leb (nodes t) 256) front)
-
   pub ready_of : Ready t p plan
-  ready_of = record {
+  ready_of = let (whole, _, few, _) = lengths_are t p (sym h.lengths_fit) in record {
     checked = rw (sizes_as (sizes t p) plan h.sizes (λ k l. sizes_fit t p all_scanned k (omega (arith, scan_long t p (nodes t) all_scanned))))
-        (checked_of t p all_scanned is_whole is_few);
+        (checked_of t p all_scanned whole few);
     long = h.long;
   }
